@@ -3,6 +3,7 @@ mod Parts
 mod Statuses
 mod NamedSpans
 mod PathAnswers
+mod Programmes
 mod Acting
 mod Examples
 mod Linking

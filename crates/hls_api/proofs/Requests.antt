@@ -8,9 +8,9 @@ use Rattle.hls_http.specs.{declared.request_action.RequestAction.TheVariants.{Re
 use Rattle.hls_http.{specs.Actions.{is_over, exceeds_discard_limit, action_by}, proofs.Callers.{body_taken, runs_leave}}
 use Rattle.hls_http.specs.Requests.{HttpRequest as WholeRequest, ReadsWholeRequest, framing_of_head}
 use Rattle.hls_api.specs.Exchanges.{DueResponse, DiscardsBody, IngestsBy, HandlesBy, IsExchange, IsDue, IsDueAtStop, IsIngestDue, IsDiscardDue, RoutedRequest, DiscardsBy, ingest_refused_answer, request_of}
-use Rattle.hls_api.specs.Types.{StreamFault, BodyFraming, HttpFault, RequestAction, BodyEnd, DiscardEnd, IngestStop, Route}
+use Rattle.hls_api.specs.Types.{StreamFault, BodyFraming, HttpFault, RequestAction, BodyEnd, DiscardEnd, IngestStop, IngestTarget, Route, ServedChannel}
 use Rattle.hls_api.specs.{Acts.Act, Routes.takes_ingest, Responses.{ResponseData, fault_answer}, ConnectionStates.due_in}
-use Rattle.hls_api.specs.{Ingest.{IsRefusedAt, HandlesPart, Progress, no_progress, ends_at, HandlesBody}, Laws.RequestsAreRead}
+use Rattle.hls_api.specs.{Ingest.{IsRefusedAt, IngestsPart, Progress, no_progress, ends_at, HandlesBody}, Laws.RequestsAreRead}
 use Rattle.hls_http.specs.declared.end.BodyEnd.TheVariants as bodies
 use Rattle.hls_http.specs.declared.end.DiscardEnd.TheVariants as discards
 use Rattle.hls_api.specs.declared.ingest.IngestStop.TheVariants as ingest_stops
@@ -44,17 +44,17 @@ over_is (Length n) is = ap Length (eqb-true n 0 (turned (is_over (Length n)) is)
 over_is b is = cc
 
 -- a refusal after which nothing of the body is to come is at the body's end
-ended_at : (r size : ℕ) (body last : BodyFraming) (input content unread : List ℕ) (fault : StreamFault) (y : Progress)
-    → IsRefusedAt size r content fault y → BodyRuns body input content last unread → ends_at body size ≡ true → last ≡ Length 0
-ended_at r size (Length n) last input content unread fault y refused runs ends =
+ended_at : (target : IngestTarget) (size : ℕ) (body last : BodyFraming) (input content unread : List ℕ) (fault : StreamFault) (y : Progress)
+    → IsRefusedAt size target content fault y → BodyRuns body input content last unread → ends_at body size ≡ true → last ≡ Length 0
+ended_at target size (Length n) last input content unread fault y refused runs ends =
     let so = runs_leave (Length n) last input content unread runs in
     let all = eqb-true size n ends in
     so.1 ∙ ap Length (omega (arith, so.2, all, within refused.refuses))
   where
-    within : Refuses (HandlesPart r) no_progress content size fault y → size ≤ length content
+    within : Refuses (IngestsPart target) no_progress content size fault y → size ≤ length content
     within (inl part) = part.shows.within
     within (inr box) = box.shows.within
-ended_at r size body last input content unread fault y refused runs ends = cc
+ended_at target size body last input content unread fault y refused runs ends = cc
 
 -- ---- by what is done with the body
 
@@ -69,19 +69,19 @@ module _ (request : RoutedRequest) (acts : List Act) (due : DueResponse) (goes :
   dropped route last content unread (Err discards.TooLarge) many skipped = absurd (early_due request.head request.action due goes (fault_answer TooLarge) skipped.1)
   dropped route last content unread (Err (discards.Stopped end)) some skipped = absurd (no_stop request.head request.action due goes end skipped.1)
 
-  taken : (r : ℕ) (body last : BodyFraming) (input content unread : List ℕ) (y : Progress) (early : Bool) (result : Result (Unit {0}) IngestStop) → BodyRuns body input content last unread
-      → HandlesBody r body content last unread y early result → IsIngestDue request.head request.action early y due result → last ≡ Length 0
-  taken r body last input content unread y early (Ok done) runs handles ingested = handles.0.over
-  taken r body last input content unread y early (Err (ingest_stops.Refused fault)) runs (inl handles) ingested = handles.0.over
-  taken r body last input content unread y early (Err (ingest_stops.Refused fault)) runs (inr handles) ingested =
-      let late = open_due request.head request.action due goes (ingest_refused_answer fault y) early ingested in
-      ended_at r handles.0 body last input content unread fault y handles.1 runs (turned (ends_at body handles.0) (sym handles.2 ∙ late))
-  taken r body last input content unread y early (Err ingest_stops.Memory) runs handles ingested = cc (goes, ap (λ (d : DueResponse). d.closing) ingested)
-  taken r body last input content unread y early (Err (ingest_stops.Stopped end)) runs handles ingested = absurd (no_stop request.head request.action due goes end ingested)
+  taken : (target : IngestTarget) (body last : BodyFraming) (input content unread : List ℕ) (y : Progress) (early : Bool) (result : Result (Unit {0}) IngestStop) → BodyRuns body input content last unread
+      → HandlesBody target body content last unread y early result → IsIngestDue target request.head request.action early y due result → last ≡ Length 0
+  taken target body last input content unread y early (Ok done) runs handles ingested = handles.0.over
+  taken target body last input content unread y early (Err (ingest_stops.Refused fault)) runs (inl handles) ingested = handles.0.over
+  taken target body last input content unread y early (Err (ingest_stops.Refused fault)) runs (inr handles) ingested =
+      let late = open_due request.head request.action due goes (ingest_refused_answer target fault y) early ingested in
+      ended_at target handles.0 body last input content unread fault y handles.1 runs (turned (ends_at body handles.0) (sym handles.2 ∙ late))
+  taken target body last input content unread y early (Err ingest_stops.Memory) runs handles ingested = cc (goes, ap (λ (d : DueResponse). d.closing) ingested)
+  taken target body last input content unread y early (Err (ingest_stops.Stopped end)) runs handles ingested = absurd (no_stop request.head request.action due goes end ingested)
 
   fed_by : (route : Option Route) (body : BodyFraming) (stream unread : List ℕ) → IngestsBy route request body stream acts due unread → IsAtEnd body stream unread
-  fed_by (Some (routes.Ingest r)) body stream unread f =
-      (f.content, rw (taken r body f.last stream f.content unread f.progress f.early f.result f.runs f.handles f.ingested) at f.runs)
+  fed_by (Some (routes.Ingest target)) body stream unread f =
+      (f.content, rw (taken target body f.last stream f.content unread f.progress f.early f.result f.runs f.handles f.ingested) at f.runs)
   fed_by route body stream unread f = absurd f
 
   skipped_by : (route : Option Route) (body : BodyFraming) (stream unread : List ℕ) → DiscardsBy route request body stream acts due unread → IsAtEnd body stream unread
@@ -110,10 +110,10 @@ followed (Ok body) true false request stream acts due unread goes f = by_size (e
 -- ---- a request
 
 -- a whole request at the front of the stream, and the rest
-begun_so : (count : ℕ) (stream : List ℕ) (acts : List Act) (due : DueResponse) (unread : List ℕ) → due.closing ≡ false → IsExchange count stream acts due unread
+begun_so : (channel : ServedChannel) (stream : List ℕ) (acts : List Act) (due : DueResponse) (unread : List ℕ) → due.closing ≡ false → IsExchange channel stream acts due unread
     → (request : WholeRequest) × ReadsWholeRequest stream request unread
-begun_so count stream acts due unread goes exchange =
-    let request = request_of count exchange.head in
+begun_so channel stream acts due unread goes exchange =
+    let request = request_of channel exchange.head in
     let (body, is, (content, runs)) = followed (framing_of_head exchange.head) (is_some request.asks.route) (takes_ingest request.asks.route request.asks.method) request exchange.following acts due unread goes exchange.follows in (
       record { head = exchange.head; content = content },
       record { body = body; middle = exchange.following; head = exchange.reads; framing_is = is; content = body_taken body exchange.following content unread runs },
@@ -122,10 +122,10 @@ begun_so count stream acts due unread goes exchange =
 -- ---- a sequence of requests
 
 pub requests_are_read : RequestsAreRead
-requests_are_read count stream rest [] serves = record { requests = []; count_is = refl; cuts = serves }
-requests_are_read count stream rest (x ∷ xs) (middle, exchange, serves) =
-    let one = begun_so count stream x.acts (due_in x) middle refl exchange in
-    let others = requests_are_read count middle rest xs serves in
+requests_are_read channel stream rest [] serves = record { requests = []; count_is = refl; cuts = serves }
+requests_are_read channel stream rest (x ∷ xs) (middle, exchange, serves) =
+    let one = begun_so channel stream x.acts (due_in x) middle refl exchange in
+    let others = requests_are_read channel middle rest xs serves in
     record {
       requests = one.0 ∷ others.requests;
       count_is = omega (arith, others.count_is);

@@ -5,8 +5,8 @@ use Rattle.hls_core.specs.Streams.{IsTaken}
 use Rattle.hls_http.specs.declared.{framing.BodyFraming.TheVariants.Length, request_action.RequestAction.TheVariants.{Ingest, Discard}}
 use Rattle.hls_http.specs.{Bodies.{StepsThrough, IsOpen}, Heads.{ReadsLimitedHead, IsUnfinished}}
 use Rattle.hls_api.specs.Exchanges.{DueResponse, IsExchange, RefusesHead, RoutedRequest, Responds, continue_prefix, request_of}
-use Rattle.hls_api.specs.{Acts.Act, Responses.ResponseData, Ingest.{HandlesPart, Progress, no_progress}}
-use Rattle.hls_api.specs.Types.{BodyFraming, SessionEnd, Route}
+use Rattle.hls_api.specs.{Acts.Act, Responses.ResponseData, Ingest.{IngestsPart, Progress, no_progress}}
+use Rattle.hls_api.specs.Types.{BodyFraming, SessionEnd, Route, IngestTarget, ServedChannel}
 use Rattle.hls_http.specs.declared.end.SessionEnd.TheVariants as ends
 use Rattle.hls_api.specs.declared.route.Route.TheVariants as routes
 
@@ -21,10 +21,10 @@ pub record Exchange : Type 0 where
 abbrev pub due_in : Exchange → DueResponse
 due_in x = record { text = x.reply; closing = false; success = x.success }
 
--- such requests are the first ones of the stream, in a channel of `count` renditions; the rest follows
-abbrev pub Serves : ℕ → List ℕ → List Exchange → List ℕ → Type 0
-Serves count stream [] rest = rest ≡ stream
-Serves count stream (x ∷ xs) rest = (middle : List ℕ) × IsExchange count stream x.acts (due_in x) middle × Serves count middle xs rest
+-- such requests are the first ones of the stream, in a channel; the rest follows
+abbrev pub Serves : ServedChannel → List ℕ → List Exchange → List ℕ → Type 0
+Serves channel stream [] rest = rest ≡ stream
+Serves channel stream (x ∷ xs) rest = (middle : List ℕ) × IsExchange channel stream x.acts (due_in x) middle × Serves channel middle xs rest
 
 abbrev pub acts_of : List Exchange → List Act
 acts_of xs = flat_map (λ x. x.acts) xs
@@ -61,14 +61,14 @@ pub record IsForAnswer (request : RoutedRequest) (last : BodyFraming) (acts : Li
   pub responds : Responds request.asks route [] (Some answer) acts
 
 -- the acts for a body after this content: none while a discarded body is read, then those for the answer; or those of an ingested body
-abbrev pub AreBodyActs : ℕ → RequestHead → BodyFraming → List ℕ → BodyFraming → List Act → Type 0
-AreBodyActs count h body content last acts =
-    (((request_of count h).action ≡ Discard body) × ((acts ≡ []) ⊎ IsForAnswer (request_of count h) last acts))
-    ⊎ (((request_of count h).action ≡ Ingest body)
-    × ((r : ℕ) × ((request_of count h).asks.route ≡ Some (routes.Ingest r)) × ((y : Progress) × IsTaken (HandlesPart r) no_progress content y × (acts ≡ y.acts))))
+abbrev pub AreBodyActs : ServedChannel → RequestHead → BodyFraming → List ℕ → BodyFraming → List Act → Type 0
+AreBodyActs channel h body content last acts =
+    (((request_of channel h).action ≡ Discard body) × ((acts ≡ []) ⊎ IsForAnswer (request_of channel h) last acts))
+    ⊎ (((request_of channel h).action ≡ Ingest body)
+    × ((target : IngestTarget) × ((request_of channel h).asks.route ≡ Some (routes.Ingest target)) × ((y : Progress) × IsTaken (IngestsPart target) no_progress content y × (acts ≡ y.acts))))
 
 -- a request whose body is being read, or whose reply is being made
-pub record IsWithin (count : ℕ) (stream : List ℕ) (acts : List Act) (text unread : List ℕ) : Type 0 where
+pub record IsWithin (channel : ServedChannel) (stream : List ℕ) (acts : List Act) (text unread : List ℕ) : Type 0 where
   pub head : RequestHead
   pub following : List ℕ
   pub reads : ReadsLimitedHead stream head following
@@ -76,45 +76,45 @@ pub record IsWithin (count : ℕ) (stream : List ℕ) (acts : List Act) (text un
   pub content : List ℕ
   pub last : BodyFraming
   pub runs : StepsThrough body following content last unread
-  pub asked : AreBodyActs count head body content last acts
-  pub text_is : text ≡ continue_prefix head (request_of count head).action
+  pub asked : AreBodyActs channel head body content last acts
+  pub text_is : text ≡ continue_prefix head (request_of channel head).action
 
 -- .. whose body ends early
-pub record IsCutShort (count : ℕ) (stream : List ℕ) (acts : List Act) (text unread : List ℕ) : Type 0 where
-  pub within : IsWithin count stream acts text unread
+pub record IsCutShort (channel : ServedChannel) (stream : List ℕ) (acts : List Act) (text unread : List ℕ) : Type 0 where
+  pub within : IsWithin channel stream acts text unread
   pub unfinished : IsOpen within.last unread
 
 -- the reply that ends the connection: to a request, or to bytes that can't become a head
-pub record EndsByReply (count : ℕ) (success : Bool) (stream : List ℕ) (acts : List Act) (text unread : List ℕ) : Type 0 where
+pub record EndsByReply (channel : ServedChannel) (success : Bool) (stream : List ℕ) (acts : List Act) (text unread : List ℕ) : Type 0 where
   pub due : DueResponse
   pub closing : due.closing ≡ true
   pub success_is : due.success ≡ success
   pub text_is : text ≡ due.text
-  pub exchange : IsExchange count stream acts due unread ⊎ (RefusesHead stream due × (acts ≡ []) × (unread ≡ stream))
+  pub exchange : IsExchange channel stream acts due unread ⊎ (RefusesHead stream due × (acts ≡ []) × (unread ≡ stream))
 
 -- nothing of the stream after the answered requests was taken
 abbrev pub IsBetween : List ℕ → List Act → List ℕ → List ℕ → Type 0
 IsBetween stream acts text unread = (unread ≡ stream) × (acts ≡ []) × (text ≡ [])
 
 -- the part of the stream after the answered requests: its acts, the bytes written for it, and the unread bytes
-abbrev pub IsAtStage : Stage → ℕ → Bool → List ℕ → List Act → List ℕ → List ℕ → Type 0
-IsAtStage Between count ended stream acts text unread = IsBetween stream acts text unread
-IsAtStage Within count ended stream acts text unread = IsWithin count stream acts text unread
-IsAtStage (Over ends.Closed) count ended stream acts text unread =
-    (IsTrue ended × (stream ≡ []) × IsBetween stream acts text unread) ⊎ EndsByReply count true stream acts text unread
-IsAtStage (Over ends.Refused) count ended stream acts text unread = EndsByReply count false stream acts text unread
-IsAtStage (Over ends.CutShort) count ended stream acts text unread =
-    IsTrue ended × ((IsUnfinished stream × (0 < length stream) × IsBetween stream acts text unread) ⊎ IsCutShort count stream acts text unread)
-IsAtStage (Over end) count ended stream acts text unread = ⊥
+abbrev pub IsAtStage : Stage → ServedChannel → Bool → List ℕ → List Act → List ℕ → List ℕ → Type 0
+IsAtStage Between channel ended stream acts text unread = IsBetween stream acts text unread
+IsAtStage Within channel ended stream acts text unread = IsWithin channel stream acts text unread
+IsAtStage (Over ends.Closed) channel ended stream acts text unread =
+    (IsTrue ended × (stream ≡ []) × IsBetween stream acts text unread) ⊎ EndsByReply channel true stream acts text unread
+IsAtStage (Over ends.Refused) channel ended stream acts text unread = EndsByReply channel false stream acts text unread
+IsAtStage (Over ends.CutShort) channel ended stream acts text unread =
+    IsTrue ended × ((IsUnfinished stream × (0 < length stream) × IsBetween stream acts text unread) ⊎ IsCutShort channel stream acts text unread)
+IsAtStage (Over end) channel ended stream acts text unread = ⊥
 
 -- The first requests of the received bytes are answered in order, whatever follows: the acts are those for each request, and the
 -- bytes sent and pending are their replies. The stage describes the rest.
-pub record IsServed (count : ℕ) (stage : Stage) (h : History) : Type 0 where
+pub record IsServed (channel : ServedChannel) (stage : Stage) (h : History) : Type 0 where
   pub over : List Exchange
   pub rest : List ℕ
-  pub serves : (later : List ℕ) → Serves count (h.received ++ later) over (rest ++ later)
+  pub serves : (later : List ℕ) → Serves channel (h.received ++ later) over (rest ++ later)
   pub acts : List Act
   pub asked : h.acts ≡ acts_of over ++ acts
   pub text : List ℕ
   pub written : output h ≡ text_of over ++ text
-  pub stage_is : IsAtStage stage count h.ended rest acts text h.unread
+  pub stage_is : IsAtStage stage channel h.ended rest acts text h.unread

@@ -9,14 +9,16 @@ use Rattle.hls_http.specs.{declared.request_action.RequestAction.TheVariants.{Re
 use Rattle.hls_http.specs.{Limits.discard_limit, Fields.values, Range.range_of_values, Requests.{framing_of_head, fields_of}}
 use Rattle.hls_http.specs.Actions.{announced_len, action_by, sends_continue, sends_close}
 use Rattle.hls_http.specs.ResponseText.{continue_text, is_success, out_of_memory_response}
-use Rattle.hls_catchup.specs.{declared.fault.JobFault.TheVariants.UnknownJob, Jobs.Shared.{HasCounted, HasRemoved}}
-use Rattle.hls_api.specs.Responses.{ResponseData, answer_text, fault_answer, finish_answer, media_answer, method_answer, playlist_answer, status_answer, text_answer}
-use Rattle.hls_api.specs.Types.{Refusal, State, StreamFault, Done, BodyFraming, HttpFault, RequestAction, RangeSpec, Method, BodyEnd, DiscardEnd, JobFault, Job, IngestStop, CatchupQuery, QueryFault, Route, CatchupParams}
+use Rattle.hls_catchup.specs.{declared.fault.JobFault.TheVariants.UnknownJob, Jobs.JobLine.served_version, Jobs.Shared.{HasCounted, HasRemoved}}
+use Rattle.hls_api.specs.Responses.{ResponseData, answer_text, fault_answer, finish_answer, media_answer, method_answer, metrics_answer, playlist_answer, status_answer, text_answer}
+use Rattle.hls_api.specs.Types.{Refusal, State, StreamFault, Done, BodyFraming, HttpFault, RequestAction, RangeSpec, Method, BodyEnd, DiscardEnd, JobFault, Job, IngestStop, CatchupQuery, QueryFault, Route, CatchupParams, IngestTarget, ServedChannel}
 use Rattle.hls_api.specs.{declared.catchup_query.QueryFault.TheVariants.BadQuery, Faults.status_of, JobTable.{IsAddResult, IsGetResult}}
 use Rattle.hls_api.specs.Acts.{Act, ActsChangeNothing, RecordsAdd, RecordsLook, RecordsRemove, RecordsSubmit}
 use Rattle.hls_api.specs.{Ingest.{HandlesBody, Progress, IsBodyStop, counts_text}, Playlists.live_master_text}
+use Rattle.hls_metrics.specs.declared.measured.Measured.{Measured}
 use Rattle.hls_api.specs.Players.{init_answer, live_list_answer, path_master_answer, run_answer, segment_answer}
 use Rattle.hls_playlists.specs.declared.media_uris.MediaUris.TheVariants.{Paths, Ranges}
+use Rattle.hls_api.specs.Programmes.{ShowsProgramme}
 use Rattle.hls_api.specs.JobResponses.{added_answer, query_answer, file_answer, removed_answer, job_answer}
 use Rattle.hls_api.specs.Queries.{query_in, request_for, catchup_params_of}
 use Rattle.hls_api.specs.Routes.{allows, takes_ingest, is_to_head, path_of, query_of, removes_job, route_of}
@@ -35,9 +37,9 @@ pub record RequestParams : Type 0 where
   pub query : List ℕ
   pub range : RangeSpec
 
-abbrev pub params_of : ℕ → RequestHead → RequestParams
-params_of count h = record {
-  route = route_of count (path_of h.target);
+abbrev pub params_of : ServedChannel → RequestHead → RequestParams
+params_of channel h = record {
+  route = route_of channel (path_of h.target);
   method = method_of h.method;
   query = query_of h.target;
   range = range_of_values (values (codes "range") (fields_of h));
@@ -64,6 +66,10 @@ RespondsWithState a b shown answer = (s : State) × RecordsLook a s b × (answer
 abbrev pub FinishesRendition : List Act → ℕ → List Act → ResponseData → Type 0
 FinishesRendition a r b answer = (done : Result Done Refusal) × RecordsSubmit a (Finish r) done b × (done ≢ Err Memory) × (answer ≡ finish_answer done)
 
+-- the reply shows a programme of the state that is seen
+abbrev pub RespondsWithSome : List Act → List Act → (State → ResponseData → Type 0) → ResponseData → Type 0
+RespondsWithSome a b Shows answer = (s : State) × RecordsLook a s b × Shows s answer
+
 -- ---- acts on the table of jobs: one addition where a recording is asked for, one removal where a job is deleted, and no other
 
 -- a job is added with a state, and the reply is the result
@@ -71,7 +77,7 @@ pub record AddsJob (s : State) (params : CatchupParams) (a b : List Act) (answer
   pub result : Result ℕ JobFault
   pub asked : RecordsAdd a s (request_for s params) result b
   pub adds : IsAddResult s (request_for s params) result
-  pub answer_is : answer ≡ added_answer (length s.log) result
+  pub answer_is : answer ≡ added_answer (served_version s) result
 
 -- an invalid query is reported before a full table
 abbrev pub AddsValidJob : State → Result CatchupParams QueryFault → List Act → List Act → ResponseData → Type 0
@@ -153,8 +159,11 @@ IsServedBy q routes.Run a answer b = RespondsWithState a b (λ s. run_answer s) 
 IsServedBy q (routes.InitSection run r) a answer b = RespondsWithState a b (λ s. init_answer s run r (range_for (is_to_head q.method) q.range)) answer
 IsServedBy q (routes.Segment run r first last) a answer b =
     RespondsWithState a b (λ s. segment_answer s run r first last (range_for (is_to_head q.method) q.range)) answer
+IsServedBy q (routes.Programme start stop file) a answer b = RespondsWithSome a b (λ s shown. ShowsProgramme s start stop file shown) answer
 IsServedBy q routes.CatchUp a answer b = HandlesCatchup (query_in q.query) a b answer
 IsServedBy q routes.Status a answer b = (jobs : ℕ) × HasCounted jobs × RespondsWithState a b (λ s. status_answer s jobs) answer
+IsServedBy q routes.Metrics a answer b =
+    (jobs : ℕ) × HasCounted jobs × ((measured : Measured) × RespondsWithState a b (λ s. metrics_answer s jobs measured) answer)
 IsServedBy q route a answer b = ⊥
 
 abbrev pub ServesAllowed : RequestParams → Route → List Act → ResponseData → List Act → Bool → Type 0
@@ -248,21 +257,22 @@ pub record DiscardsThenResponds (request : RoutedRequest) (route : Route) (body 
 
 -- ---- encoders' bodies
 
-abbrev pub ingested_answer : Progress → ResponseData
-ingested_answer y = text_answer statuses.Done (counts_text y.counts)
+abbrev pub ingested_answer : IngestTarget → Progress → ResponseData
+ingested_answer target y = text_answer statuses.Done (counts_text (is_some target.mending) y.counts)
 
 -- the name of the deepest fault, and the counts of what was accepted before
-abbrev pub ingest_refused_answer : StreamFault → Progress → ResponseData
-ingest_refused_answer fault y = text_answer (status_of fault) (codes "refused " ++ (name_of fault ++ (32 ∷ counts_text y.counts)))
+abbrev pub ingest_refused_answer : IngestTarget → StreamFault → Progress → ResponseData
+ingest_refused_answer target fault y =
+    text_answer (status_of fault) (codes "refused " ++ (name_of fault ++ (32 ∷ counts_text (is_some target.mending) y.counts)))
 
 -- by whether a part of the body is still to come after what is refused
-abbrev pub IsIngestDue : RequestHead → RequestAction → Bool → Progress → DueResponse → Result (Unit {0}) IngestStop → Type 0
-IsIngestDue h action early y due (Ok done) = IsDue h action (ingested_answer y) false due
-IsIngestDue h action early y due (Err (ingest_stops.Refused fault)) = IsDue h action (ingest_refused_answer fault y) early due
-IsIngestDue h action early y due (Err ingest_stops.Memory) = due ≡ due_for_memory h action
-IsIngestDue h action early y due (Err (ingest_stops.Stopped end)) = IsDueAtStop h action end due
+abbrev pub IsIngestDue : IngestTarget → RequestHead → RequestAction → Bool → Progress → DueResponse → Result (Unit {0}) IngestStop → Type 0
+IsIngestDue target h action early y due (Ok done) = IsDue h action (ingested_answer target y) false due
+IsIngestDue target h action early y due (Err (ingest_stops.Refused fault)) = IsDue h action (ingest_refused_answer target fault y) early due
+IsIngestDue target h action early y due (Err ingest_stops.Memory) = due ≡ due_for_memory h action
+IsIngestDue target h action early y due (Err (ingest_stops.Stopped end)) = IsDueAtStop h action end due
 
-pub record Ingests (request : RoutedRequest) (r : ℕ) (body : BodyFraming) (stream : List ℕ) (acts : List Act) (due : DueResponse) (unread : List ℕ) : Type 0 where
+pub record Ingests (request : RoutedRequest) (target : IngestTarget) (body : BodyFraming) (stream : List ℕ) (acts : List Act) (due : DueResponse) (unread : List ℕ) : Type 0 where
   pub content : List ℕ
   pub last : BodyFraming
   pub runs : StepsThrough body stream content last unread
@@ -270,8 +280,8 @@ pub record Ingests (request : RoutedRequest) (r : ℕ) (body : BodyFraming) (str
   pub asked : acts ≡ progress.acts
   pub early : Bool
   pub result : Result (Unit {0}) IngestStop
-  pub handles : HandlesBody r body content last unread progress early result
-  pub ingested : IsIngestDue request.head request.action early progress due result
+  pub handles : HandlesBody target body content last unread progress early result
+  pub ingested : IsIngestDue target request.head request.action early progress due result
 
 -- ---- a request: from the end of its head, where its body begins, to the bytes that are unread when the reply is sent
 
@@ -294,16 +304,16 @@ HandlesBy (Discard body) request stream acts due unread = DiscardsBy request.ask
 abbrev pub action_for : RequestHead → RequestParams → RequestAction
 action_for h q = action_by (framing_of_head h) (is_some q.route) (takes_ingest q.route q.method)
 
--- a head as a request, in a channel of `count` renditions
-abbrev pub request_of : ℕ → RequestHead → RoutedRequest
-request_of count h = record { head = h; asks = params_of count h; action = action_for h (params_of count h) }
+-- a head as a request to a channel
+abbrev pub request_of : ServedChannel → RequestHead → RoutedRequest
+request_of channel h = record { head = h; asks = params_of channel h; action = action_for h (params_of channel h) }
 
 -- the stream begins with a request; these are its acts, this reply is due, and these bytes are unread when it is sent
-pub record IsExchange (count : ℕ) (stream : List ℕ) (acts : List Act) (due : DueResponse) (unread : List ℕ) : Type 0 where
+pub record IsExchange (channel : ServedChannel) (stream : List ℕ) (acts : List Act) (due : DueResponse) (unread : List ℕ) : Type 0 where
   pub head : RequestHead
   pub following : List ℕ
   pub reads : ReadsLimitedHead stream head following
-  pub follows : HandlesBy (request_of count head).action (request_of count head) following acts due unread
+  pub follows : HandlesBy (request_of channel head).action (request_of channel head) following acts due unread
 
 -- ---- where no head can follow
 

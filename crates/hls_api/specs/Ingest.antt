@@ -1,16 +1,20 @@
 -- Ingesting an encoder's body: its parts become events, one after the other. What it leads to depends on its whole content: all
 -- parts, or those of the shortest prefix that shows a refusal.
-use Rattle.std.specs.Prelude.{◌≡◌, ◌≢◌, ◌⊎◌, ℕ, nat_eq, ◌+◌, ◌<◌, min, Bool, false, not, List, [], ◌∷◌, ◌++◌, length, Option, Some, None, option_map, Result, Ok, Err, codes}
+use Rattle.std.specs.Prelude.{◌≡◌, ◌≢◌, ◌⊎◌, ℕ, nat_eq, ◌+◌, ◌<◌, min, cond, Bool, true, false, not, List, [], ◌∷◌, ◌++◌, length, take, Option, Some, None, option_map, Result, Ok, Err, codes}
 use Rattle.std.specs.Fmt.{decimal}
 use Rattle.hls_boxes.specs.declared.part.Part.{Part}
 use Rattle.hls_core.specs.{declared.feed_fault.{StreamFault.TheVariants.{Boxes, Media, Core}, FeedFault.FeedFault}, Getters.recording_of}
 use Rattle.hls_core.specs.Streams.{EndsStream, IsTaken, Refuses as RefusesAt, Wants}
 use Rattle.hls_media_laws.specs.{InitData.InitData, declared.facts.Facts.Facts, Inits.init_of, UnitFacts.facts}
 use Rattle.hls_media_laws.specs.IsInitOrUnit.{IsInit, IsUnit}
-use Rattle.hls_core_laws.specs.declared.{event.Event.TheVariants.{Begin, Accept}, refusal.Refusal.TheVariants.{NoInit, Memory}}
+use Rattle.hls_core_laws.specs.declared.{event.Event.TheVariants.{Begin, Accept}, refusal.Refusal.TheVariants.{NoInit, Overlap, Memory}}
 use Rattle.hls_http.specs.{declared.framing.BodyFraming.TheVariants.Length, Bodies.{IsBroken, IsOpen}}
-use Rattle.hls_api.specs.{declared.ingest.IngestCounts.IngestCounts, Acts.{Act, RecordsLook, LooksAndFailsToSubmit, RecordsSubmit}}
-use Rattle.hls_api.specs.Types.{StreamFault, Refusal, State, Done, BodyFraming, BodyEnd, IngestStop}
+use Rattle.hls_api.specs.{declared.ingest.IngestCounts.IngestCounts, Acts.{Act, AtMostOne, IsFailedSubmit, IsLook, RecordsLook, LooksAndFailsToSubmit, RecordsSubmit}}
+use Rattle.hls_api.specs.Types.{StreamFault, Refusal, State, Done, BodyFraming, BodyEnd, IngestStop, IngestTarget}
+use Rattle.hls_record.specs.RecordingData.{RecordingData}
+use Rattle.hls_mend.specs.InitSections.{is_same_to_decoders}
+use Rattle.hls_mend_laws.specs.declared.settings.MendSettings.{MendSettings}
+use Rattle.hls_mend.specs.{MendedUnits.{Mended, as_sent, mended_unit}, declared.mended.ReadUnit.ReadUnit}
 use Rattle.hls_boxes.specs.declared.part.Part.TheVariants as parts
 use Rattle.hls_core.specs.declared.feed_fault.FeedFault.TheVariants as feed_faults
 use Rattle.hls_core_laws.specs.declared.done.Done.TheVariants as done
@@ -24,28 +28,43 @@ abbrev pub one_more : ℕ → ℕ
 one_more n = min (n + 1) 18446744073709551615
 
 abbrev pub with_init : Done → IngestCounts → IngestCounts
-with_init (done.New version) c = record { inits = one_more c.inits; units = c.units; repeats = c.repeats }
-with_init done.Repeat c = record { inits = c.inits; units = c.units; repeats = one_more c.repeats }
+with_init (done.New version) c = record c { inits = one_more c.inits }
+with_init done.Repeat c = record c { repeats = one_more c.repeats }
 
 abbrev pub with_unit : Done → IngestCounts → IngestCounts
-with_unit (done.New version) c = record { inits = c.inits; units = one_more c.units; repeats = c.repeats }
-with_unit done.Repeat c = record { inits = c.inits; units = c.units; repeats = one_more c.repeats }
+with_unit (done.New version) c = record c { units = one_more c.units }
+with_unit done.Repeat c = record c { repeats = one_more c.repeats }
 
--- new init sections, new units, and duplicates of either
-abbrev pub counts_text : IngestCounts → List ℕ
-counts_text c =
-    codes "init " ++ (decimal c.inits ++ (codes " accepted " ++ (decimal c.units ++ (codes " repeated " ++ (decimal c.repeats ++ 10 ∷ [])))))
+-- new init sections, new units, and duplicates of either; then this text
+abbrev pub counts_before : List ℕ → IngestCounts → List ℕ
+counts_before text c =
+    codes "init " ++ (decimal c.inits ++ (codes " accepted " ++ (decimal c.units ++ (codes " repeated " ++ (decimal c.repeats ++ text)))))
+
+-- units that were written again, fillers, and units that weren't recorded
+abbrev pub mended_counts_text : IngestCounts → List ℕ
+mended_counts_text c =
+    codes " mended " ++ (decimal c.mended ++ (codes " filled " ++ (decimal c.filled ++ (codes " dropped " ++ (decimal c.dropped ++ 10 ∷ [])))))
+
+-- all counts, if units are mended
+abbrev pub counts_text : Bool → IngestCounts → List ℕ
+counts_text false c = counts_before (10 ∷ []) c
+counts_text true c = counts_before (mended_counts_text c) c
 
 -- ---- parts
 
--- the progress of a body: its acts, the rendition's init section once it was looked up, and the counts
+-- the progress of a body: its acts, the rendition's init section once it was looked up, the counts, and, if units are mended, the end in
+-- ticks of the last unit that was recorded of it
 pub record Progress : Type 0 where
   pub acts : List Act
   pub init : Option InitData
   pub counts : IngestCounts
+  pub end : Option ℕ
+
+abbrev pub no_counts : IngestCounts
+no_counts = record { inits = 0; units = 0; repeats = 0; mended = 0; filled = 0; dropped = 0 }
 
 abbrev pub no_progress : Progress
-no_progress = record { acts = []; init = None; counts = record { inits = 0; units = 0; repeats = 0 } }
+no_progress = record { acts = []; init = None; counts = no_counts; end = None }
 
 -- at a body's first unit the state is looked at, once, for the rendition's init section, by which its units are read
 pub record LooksUpInit (r : ℕ) (x : Progress) (found : Option InitData) (z : List Act) : Type 0 where
@@ -121,7 +140,134 @@ HandlesPart r x part y (Ok taken) = TakesPart r x part y
 HandlesPart r x part y (Err (feed_faults.Refused fault)) = RefusesPart r x part fault y.acts × (y.counts ≡ x.counts)
 HandlesPart r x part y (Err feed_faults.Memory) = LooksAndFailsToSubmit x.acts y.acts
 
+-- ---- parts of an encoder whose units are mended
+
+-- the init section that is submitted: the recorded one, if the one that was sent is the same to every decoder
+abbrev pub chosen_init : Option RecordingData → List ℕ → List ℕ
+chosen_init None bytes = bytes
+chosen_init (Some rec) bytes = cond (is_same_to_decoders rec.head bytes) rec.head bytes
+
+pub record ChoosesInit (r : ℕ) (x : Progress) (bytes chosen : List ℕ) (looked : List Act) : Type 0 where
+  pub state : State
+  pub looks : RecordsLook x.acts state looked
+  pub chosen_is : chosen ≡ chosen_init (recording_of state r) bytes
+
+-- two looks at most, and then at most one event, which failed with an allocation failure
+abbrev pub FailsToMend : List Act → List Act → Type 0
+FailsToMend before after = (looked : List Act) × AtMostOne IsLook before looked × LooksAndFailsToSubmit looked after
+
+-- an init section is handled as any other, in the form that was chosen
+abbrev pub MendsInit : ℕ → Progress → List ℕ → Progress → Result (Unit {0}) FeedFault → Type 0
+MendsInit r x bytes y (Err feed_faults.Memory) = FailsToMend x.acts y.acts
+MendsInit r x bytes y result =
+    (chosen : List ℕ) × (looked : List Act) × ChoosesInit r x bytes chosen looked × HandlesPart r (record x { acts = looked }) (parts.Init chosen) y result × (y.end ≡ x.end)
+
+-- what mending makes of a unit in a state
+abbrev pub mended_for : MendSettings → InitData → ReadUnit → Option RecordingData → Mended
+mended_for settings init u None = as_sent u
+mended_for settings init u (Some rec) = mended_unit settings init rec u
+
+-- a unit that starts at the end of the body's last one is submitted as it was sent; for any other one the state is looked at
+abbrev pub DecidesUnit : MendSettings → ℕ → Option ℕ → InitData → ReadUnit → List Act → Mended → List Act → Type 0
+DecidesUnit settings r end init u before mended after =
+    ((end ≡ Some u.facts.start) × (mended ≡ as_sent u) × (after ≡ before))
+    ⊎ ((end ≢ Some u.facts.start) × ((state : State) × RecordsLook before state after × (mended ≡ mended_for settings init u (recording_of state r))))
+
+-- a filler counts if it is new; one that the channel refuses is left out
+abbrev pub with_filler : Result Done Refusal → IngestCounts → IngestCounts
+with_filler (Ok (done.New version)) c = record c { filled = one_more c.filled }
+with_filler answer c = c
+
+abbrev pub SubmitsFiller : ℕ → ReadUnit → IngestCounts → List Act → IngestCounts → List Act → Type 0
+SubmitsFiller r u c before counts after =
+    (answer : Result Done Refusal) × (answer ≢ Err Memory) × RecordsSubmit before (Accept r u.facts u.bytes) answer after × (counts ≡ with_filler answer c)
+
+-- .. one after another
+abbrev pub SubmitsFillers : ℕ → List ReadUnit → IngestCounts → List Act → IngestCounts → List Act → Type 0
+SubmitsFillers r [] c before counts after = (after ≡ before) × (counts ≡ c)
+SubmitsFillers r (u ∷ us) c before counts after =
+    (some : IngestCounts) × (middle : List Act) × SubmitsFiller r u c before some middle × SubmitsFillers r us some middle counts after
+
+-- the unit itself: one that the channel refuses as overlapping is left out, and the body continues
+abbrev pub with_mended : Bool → Result Done Refusal → IngestCounts → IngestCounts
+with_mended true (Ok (done.New version)) c = record c { mended = one_more c.mended }
+with_mended false (Ok (done.New version)) c = record c { units = one_more c.units }
+with_mended changed (Ok done.Repeat) c = record c { repeats = one_more c.repeats }
+with_mended changed (Err Overlap) c = record c { dropped = one_more c.dropped }
+with_mended changed (Err refusal) c = c
+
+abbrev pub end_after : Facts → Result Done Refusal → Option ℕ → Option ℕ
+end_after f (Ok (done.New version)) end = Some (f.start + f.duration)
+end_after f (Err Overlap) end = None
+end_after f answer end = end
+
+abbrev pub mended_result : Result Done Refusal → Result (Unit {0}) FeedFault
+mended_result (Ok done) = Ok tt
+mended_result (Err Overlap) = Ok tt
+mended_result (Err Memory) = Err feed_faults.Memory
+mended_result (Err refusal) = Err (feed_faults.Refused (Core refusal))
+
+-- what is to be submitted for a unit, and the acts that led to it
+pub record DecidesPart (settings : MendSettings) (r : ℕ) (x : Progress) (bytes : List ℕ) (init : InitData) (mended : Mended) (seen : List Act) : Type 0 where
+  pub looked : List Act
+  pub finds : FindsInit r x init looked
+  pub facts : Facts
+  pub reads : IsUnit init bytes facts
+  pub decides : DecidesUnit settings r x.end init (record { facts = facts; bytes = bytes }) looked mended seen
+
+-- a unit is submitted as mending makes it, after fillers if they are needed
+pub record MendsUnit (settings : MendSettings) (r : ℕ) (x : Progress) (bytes : List ℕ) (y : Progress) (result : Result (Unit {0}) FeedFault) : Type 0 where
+  pub init : InitData
+  pub mended : Mended
+  pub seen : List Act
+  pub decided : DecidesPart settings r x bytes init mended seen
+  pub filled : IngestCounts
+  pub before : List Act
+  pub fills : SubmitsFillers r mended.fillers x.counts seen filled before
+  pub answer : Result Done Refusal
+  pub submits : RecordsSubmit before (Accept r mended.unit.facts mended.unit.bytes) answer y.acts
+  pub counts : y.counts ≡ with_mended mended.is_changed answer filled
+  pub ends : y.end ≡ end_after mended.unit.facts answer x.end
+  pub kept : y.init ≡ Some init
+  pub result_is : result ≡ mended_result answer
+
+-- an allocation failed after the first `count` fillers of a unit
+pub record FailsInFillers (settings : MendSettings) (r : ℕ) (x : Progress) (bytes : List ℕ) (after : List Act) : Type 0 where
+  pub init : InitData
+  pub mended : Mended
+  pub seen : List Act
+  pub decided : DecidesPart settings r x bytes init mended seen
+  pub count : ℕ
+  pub filled : IngestCounts
+  pub before : List Act
+  pub fills : SubmitsFillers r (take count mended.fillers) x.counts seen filled before
+  pub failed : AtMostOne IsFailedSubmit before after
+
+-- no unit, or a unit before any init section
+abbrev pub RefusesUnitBefore : ℕ → Progress → List ℕ → StreamFault → List Act → Type 0
+RefusesUnitBefore r x bytes (Boxes fault) z = ⊥
+RefusesUnitBefore r x bytes (Media fault) z = (init : InitData) × FindsInit r x init z × (facts init bytes ≡ Err fault)
+RefusesUnitBefore r x bytes (Core refusal) z = IsTooEarly r x refusal z
+
+-- the unit itself isn't submitted: it is no unit, it comes before any init section, or an allocation failed
+abbrev pub StopsBeforeUnit : MendSettings → ℕ → Progress → List ℕ → Progress → Result (Unit {0}) FeedFault → Type 0
+StopsBeforeUnit settings r x bytes y (Ok taken) = ⊥
+StopsBeforeUnit settings r x bytes y (Err feed_faults.Memory) = FailsToMend x.acts y.acts ⊎ FailsInFillers settings r x bytes y.acts
+StopsBeforeUnit settings r x bytes y (Err (feed_faults.Refused fault)) = RefusesUnitBefore r x bytes fault y.acts × (y.counts ≡ x.counts)
+
+abbrev pub MendsPart : MendSettings → ℕ → Progress → Part → Progress → Result (Unit {0}) FeedFault → Type 0
+MendsPart settings r x (parts.Init bytes) y result = MendsInit r x bytes y result
+MendsPart settings r x (parts.Unit bytes) y result = MendsUnit settings r x bytes y result ⊎ StopsBeforeUnit settings r x bytes y result
+
 -- ---- a body, by its whole content
+
+-- what becomes of a part, by whether units are mended
+abbrev pub ingests_by : Option MendSettings → ℕ → Progress → Part → Progress → Result (Unit {0}) FeedFault → Type 0
+ingests_by None r x part y result = HandlesPart r x part y result
+ingests_by (Some settings) r x part y result = MendsPart settings r x part y result
+
+abbrev pub IngestsPart : IngestTarget → Progress → Part → Progress → Result (Unit {0}) FeedFault → Type 0
+IngestsPart target x part y result = ingests_by target.mending target.rendition x part y result
 
 -- why a body is abandoned before its end
 abbrev pub ingest_stop_of : FeedFault → IngestStop
@@ -135,15 +281,15 @@ ends_at (Length n) size = nat_eq size n
 ends_at _ size = false
 
 -- all of the content came, and its parts are accepted: the stream is complete, or ends inside a part
-pub record IsEnded (r : ℕ) (content : List ℕ) (last : BodyFraming) (y : Progress) (result : Result (Unit {0}) StreamFault) : Type 0 where
+pub record IsEnded (target : IngestTarget) (content : List ℕ) (last : BodyFraming) (y : Progress) (result : Result (Unit {0}) StreamFault) : Type 0 where
   pub over : last ≡ Length 0
-  pub taken : IsTaken (HandlesPart r) no_progress content y
+  pub taken : IsTaken (IngestsPart target) no_progress content y
   pub ends : EndsStream content result
 
 -- the first `size` bytes of the content, and no fewer, show a refusal; what follows is never looked at. Fewer than 65536 bytes
 -- followed
-pub record IsRefusedAt (size : ℕ) (r : ℕ) (content : List ℕ) (fault : StreamFault) (y : Progress) : Type 0 where
-  pub refuses : RefusesAt (HandlesPart r) no_progress content size fault y
+pub record IsRefusedAt (size : ℕ) (target : IngestTarget) (content : List ℕ) (fault : StreamFault) (y : Progress) : Type 0 where
+  pub refuses : RefusesAt (IngestsPart target) no_progress content size fault y
   pub few : length content < size + 65536
 
 -- why a body with this framing of its rest stops, given the unread bytes
@@ -153,10 +299,10 @@ IsBodyStop last unread end = IsOpen last unread
 
 -- the outcome of a body after this content, and whether the reply precedes its end: Truncated is at the body's end, and every other
 -- refusal where it shows. If the body stopped early, all the content that came was taken
-abbrev pub HandlesBody : ℕ → BodyFraming → List ℕ → BodyFraming → List ℕ → Progress → Bool → Result (Unit {0}) IngestStop → Type 0
-HandlesBody r body content last unread y early (Ok done) = IsEnded r content last y (Ok done) × (early ≡ false)
-HandlesBody r body content last unread y early (Err (ingest_stops.Refused fault)) =
-    (IsEnded r content last y (Err fault) × (early ≡ false))
-    ⊎ ((size : ℕ) × IsRefusedAt size r content fault y × (early ≡ not (ends_at body size)))
-HandlesBody r body content last unread y early (Err ingest_stops.Memory) = Wants (HandlesPart r) no_progress content y
-HandlesBody r body content last unread y early (Err (ingest_stops.Stopped end)) = IsTaken (HandlesPart r) no_progress content y × IsBodyStop last unread end
+abbrev pub HandlesBody : IngestTarget → BodyFraming → List ℕ → BodyFraming → List ℕ → Progress → Bool → Result (Unit {0}) IngestStop → Type 0
+HandlesBody target body content last unread y early (Ok done) = IsEnded target content last y (Ok done) × (early ≡ false)
+HandlesBody target body content last unread y early (Err (ingest_stops.Refused fault)) =
+    (IsEnded target content last y (Err fault) × (early ≡ false))
+    ⊎ ((size : ℕ) × IsRefusedAt size target content fault y × (early ≡ not (ends_at body size)))
+HandlesBody target body content last unread y early (Err ingest_stops.Memory) = Wants (IngestsPart target) no_progress content y
+HandlesBody target body content last unread y early (Err (ingest_stops.Stopped end)) = IsTaken (IngestsPart target) no_progress content y × IsBodyStop last unread end

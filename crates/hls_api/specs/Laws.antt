@@ -3,10 +3,10 @@
 use Rattle.std.specs.Prelude.{◌≡◌, ◌⊎◌, ℕ, false, List, length, map, Some, Result, codes}
 use Rattle.hls_http.specs.{declared.response_parts.Status.TheVariants.Done, Requests.{HttpRequest as WholeRequest, AreRequestsThenRest}}
 use Rattle.hls_http.specs.{declared.method.Method.TheVariants.Other, Methods.method_of}
-use Rattle.hls_catchup.specs.{declared.fault.CatchFault.CatchFault, Replies.{IsAnswered, ReplyData, IsRightReply}, Jobs.JobLine.result_line}
+use Rattle.hls_catchup.specs.{declared.fault.CatchFault.CatchFault, Replies.{IsAnswered, ReplyData, IsRightReply}, Jobs.JobLine.{result_line, served_version}}
 use Rattle.hls_api.specs.{ConnectionStates.{Exchange, Serves}, Exchanges.RespondsWithJob, Routes.{allows, named_methods}}
 use Rattle.hls_api.specs.{JobResponses.{file_answer, reply_answer, job_answer}, Responses.{ResponseData, fault_answer, text_answer}}
-use Rattle.hls_api.specs.Types.{State, RangeSpec, Request, JobFile, Route}
+use Rattle.hls_api.specs.Types.{State, RangeSpec, Request, JobFile, Route, ServedChannel}
 use Rattle.hls_http.specs.declared.fault.HttpFault.TheVariants as http
 
 -- ---- requests
@@ -19,7 +19,7 @@ pub record BeginsWith (count : ℕ) (text rest : List ℕ) : Type 0 where
 
 -- the requests after whose replies a connection stays open are the first ones of its stream, and the bytes to come follow directly
 abbrev pub RequestsAreRead : Type 0
-RequestsAreRead = (count : ℕ) (stream rest : List ℕ) (over : List Exchange) → Serves count stream over rest → BeginsWith (length over) stream rest
+RequestsAreRead = (channel : ServedChannel) (stream rest : List ℕ) (over : List Exchange) → Serves channel stream over rest → BeginsWith (length over) stream rest
 
 -- ---- methods
 
@@ -49,7 +49,7 @@ pub record IsOfRightAnswer (answer : ResponseData) : Type 0 where
   pub request : Request
   pub result : Result ReplyData CatchFault
   pub right : IsAnswered state request (Some result)
-  pub answer_is : answer ≡ text_answer Done (result_line result (length state.log))
+  pub answer_is : answer ≡ text_answer Done (result_line result (served_version state))
 
 -- a job without an answer yet
 abbrev pub IsOfUnfinished : ResponseData → Type 0

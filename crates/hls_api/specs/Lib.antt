@@ -14,6 +14,7 @@ pub mod Playlists
 pub mod Queries
 pub mod Responses
 pub mod Players
+pub mod Programmes
 pub mod PathAnswers
 pub mod NamedSpans
 pub mod Routes

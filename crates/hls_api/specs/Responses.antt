@@ -12,6 +12,8 @@ use Rattle.hls_record.specs.RecordingData.{RecordingData, bytes_of, total_of, ra
 use Rattle.hls_places_laws.specs.Line.Live.{segments_of}
 use Rattle.hls_core_laws.specs.{Base.bytes_before_base, Line.line, Places.kept_places}
 use Rattle.hls_core.specs.Getters.{recording_of}
+use Rattle.hls_catchup.specs.Jobs.JobLine.{served_version}
+use Rattle.hls_metrics.specs.{declared.measured.Measured.Measured, Metrics.metrics_text}
 use Rattle.hls_api.specs.{Faults.core_status, Routes.methods_of, Types.{HttpFault, RangeSpec, Status, Refusal, State, Done as Moved, Route}}
 use Rattle.hls_http.specs.declared.fault.HttpFault.TheVariants as http
 use Rattle.hls_http.specs.declared.range_spec.RangeSelection.TheVariants as parts
@@ -63,10 +65,10 @@ finish_answer (Err refusal_) = text_answer (core_status refusal_) (refusal_body 
 abbrev pub status_row : List ℕ → ℕ → List ℕ
 status_row name number = name ++ (32 ∷ (decimal number ++ 10 ∷ []))
 
--- log entries, kept places, live segments, segments that have slid out, and jobs. Segments that precede this process count
+-- log entries, kept places, live segments, segments that have slid out, and jobs. Log entries and segments that precede this process count
 abbrev pub status_text : State → ℕ → List ℕ
 status_text s jobs =
-    status_row (codes "version") (length s.log)
+    status_row (codes "version") (served_version s)
     ++ (status_row (codes "places") (length (kept_places s))
     ++ (status_row (codes "segments") (length (segments_of (line s)))
     ++ (status_row (codes "removed") (s.config.base.segments + (line s).removed)
@@ -74,6 +76,12 @@ status_text s jobs =
 
 abbrev pub status_answer : State → ℕ → ResponseData
 status_answer s jobs = text_answer Done (status_text s jobs)
+
+-- ---- the metrics
+
+-- with what the server measured, which is of no state
+abbrev pub metrics_answer : State → ℕ → Measured → ResponseData
+metrics_answer s jobs measured = text_answer Done (metrics_text s jobs measured)
 
 -- ---- media
 

@@ -1,13 +1,16 @@
 -- What a target names, and which methods it allows.
 use Rattle.std.specs.Prelude.{ℕ, nat_lt, min, Bool, true, false, ◌&&◌, ◌==◌, ◌-◌, ◌+◌, cond, Option, Some, None, option_and_then, option_map, unwrap_or}
 use Rattle.std.specs.{Prelude.{List, [], ◌∷◌, length, take, drop, position, bytes_eq, codes}, List.{filter, join_by, position_or_len}}
+use Rattle.std.specs.Option.{option_or}
 use Rattle.std.specs.Str.{all_ascii_digits}
 use Rattle.hls_text.specs.Digits.{has_no_leading_zero, number_of_digits}
 use Rattle.hls_core_laws.specs.Base.{run_field}
 use Rattle.hls_http.specs.declared.method.Method.TheVariants.{Get, Head, Post, Put, Delete}
-use Rattle.hls_api.specs.Types.{Method, Route, JobFile}
+use Rattle.hls_api.specs.Queries.{time_point_of}
+use Rattle.hls_api.specs.Types.{Method, Route, JobFile, ProgrammeFile, TimePoint, IngestTarget, ServedChannel}
 use Rattle.hls_api.specs.declared.route.Route.TheVariants as routes
 use Rattle.hls_api.specs.declared.route.JobFile.TheVariants as files
+use Rattle.hls_api.specs.declared.route.ProgrammeFile.TheVariants as programmes
 
 -- the texts before and after the first such byte
 abbrev pub position_of : ℕ → List ℕ → ℕ
@@ -99,36 +102,77 @@ abbrev pub run_route : ℕ → List ℕ → List ℕ → Option Route
 run_route count run text =
     option_and_then (λ field. rendition_route_at count field text (position (λ b. b == 47) text)) (run_field run)
 
+-- a file of a programme, by its name
+abbrev pub programme_file_of : ℕ → List ℕ → Option ProgrammeFile
+programme_file_of count name =
+    cond (bytes_eq name (codes "master.m3u8")) (Some programmes.Master)
+    (cond (bytes_eq name (codes "certificate.txt")) (Some programmes.Certificate) (numbered_route (codes ".m3u8") programmes.List count name))
+
+-- the end of a programme, and its file after the next `/`
+abbrev pub programme_end_at : ℕ → TimePoint → List ℕ → Option ℕ → Option Route
+programme_end_at count start text None = None
+programme_end_at count start text (Some at) =
+    option_and_then (λ stop. option_map (routes.Programme start stop) (programme_file_of count (drop (at + 1) text))) (time_point_of (take at text))
+
+abbrev pub programme_end_route : ℕ → TimePoint → List ℕ → Option Route
+programme_end_route count start text = programme_end_at count start text (position (λ b. b == 47) text)
+
+-- the start of a programme, and what follows after the next `/`
+abbrev pub programme_start_at : ℕ → List ℕ → Option ℕ → Option Route
+programme_start_at count text None = None
+programme_start_at count text (Some at) =
+    option_and_then (λ start. programme_end_route count start (drop (at + 1) text)) (time_point_of (take at text))
+
+abbrev pub programme_route : ℕ → List ℕ → Option Route
+programme_route count text = programme_start_at count text (position (λ b. b == 47) text)
+
+-- what is in a folder: a programme, or the media of a run, whose name may be that folder's
+abbrev pub media_route : ℕ → List ℕ → List ℕ → Option Route
+media_route count folder text =
+    cond (bytes_eq folder (codes "programme")) (option_or (programme_route count text) (run_route count folder text)) (run_route count folder text)
+
 -- a playlist, or what comes before and after the next `/`
 abbrev pub player_route_at : ℕ → List ℕ → Option ℕ → Option Route
 player_route_at count text None = numbered_route (codes ".m3u8") routes.PathList count text
-player_route_at count text (Some at) = run_route count (take at text) (drop (at + 1) text)
+player_route_at count text (Some at) = media_route count (take at text) (drop (at + 1) text)
 
 abbrev pub player_route : ℕ → List ℕ → Option Route
 player_route count text =
     cond (bytes_eq text (codes "master.m3u8")) (Some routes.PathMaster)
     (cond (bytes_eq text (codes "run")) (Some routes.Run) (player_route_at count text (position (λ b. b == 47) text)))
 
+-- a channel of this number of renditions, whose units aren't mended
+abbrev pub unmended_channel : ℕ → ServedChannel
+unmended_channel count = record { renditions = count; mending = None }
+
+-- an encoder's rendition, whose units are mended as the channel's are
+abbrev pub ingest_target : ServedChannel → ℕ → IngestTarget
+ingest_target channel rendition = record { rendition = rendition; mending = channel.mending }
+
+abbrev pub ingest_route : ServedChannel → List ℕ → Option Route
+ingest_route channel number = option_map (λ r. routes.Ingest (ingest_target channel r)) (rendition_in channel.renditions number)
+
 -- the folders of the channel itself
-abbrev pub own_folder_route : ℕ → List ℕ → Option Route
-own_folder_route count path =
-    or_else (without_prefix (codes "/ingest/") path) (λ number. option_map routes.Ingest (rendition_in count number))
-    (or_else (without_prefix (codes "/finish/") path) (λ number. option_map routes.Finish (rendition_in count number))
-    (or_else (without_prefix (codes "/live/") path) (live_route count)
-    (or_else (without_prefix (codes "/media/") path) (numbered_route (codes ".mp4") routes.Media count)
-    (option_and_then (job_route count) (without_prefix (codes "/job/") path)))))
+abbrev pub own_folder_route : ServedChannel → List ℕ → Option Route
+own_folder_route channel path =
+    or_else (without_prefix (codes "/ingest/") path) (ingest_route channel)
+    (or_else (without_prefix (codes "/finish/") path) (λ number. option_map routes.Finish (rendition_in channel.renditions number))
+    (or_else (without_prefix (codes "/live/") path) (live_route channel.renditions)
+    (or_else (without_prefix (codes "/media/") path) (numbered_route (codes ".mp4") routes.Media channel.renditions)
+    (option_and_then (job_route channel.renditions) (without_prefix (codes "/job/") path)))))
 
 -- a path with a folder
-abbrev pub folder_route : ℕ → List ℕ → Option Route
-folder_route count path =
-    or_else (without_prefix (codes "/hls/") path) (player_route count)
-    (own_folder_route count path)
+abbrev pub folder_route : ServedChannel → List ℕ → Option Route
+folder_route channel path =
+    or_else (without_prefix (codes "/hls/") path) (player_route channel.renditions)
+    (own_folder_route channel path)
 
--- what a path names, in a channel of `count` renditions; paths aren't percent-decoded
-abbrev pub route_of : ℕ → List ℕ → Option Route
-route_of count path =
+-- what a path names in a channel; paths aren't percent-decoded
+abbrev pub route_of : ServedChannel → List ℕ → Option Route
+route_of channel path =
     cond (bytes_eq path (codes "/status")) (Some routes.Status)
-    (cond (bytes_eq path (codes "/catchup")) (Some routes.CatchUp) (folder_route count path))
+    (cond (bytes_eq path (codes "/metrics")) (Some routes.Metrics)
+    (cond (bytes_eq path (codes "/catchup")) (Some routes.CatchUp) (folder_route channel path)))
 
 -- ---- methods
 

@@ -1,6 +1,6 @@
 -- A session: a connection over a reader and a writer, from its start to its end.
 use Rattle.std.specs.Prelude.{◌≡◌, ℕ, List, [], ◌++◌, length, Option, Some, IsTrue}
-use Rattle.hls_api.specs.{Acts.{AreActSteps, Knowledge}, OtherActors.OtherActors, ConnectionStates.{History, Stage, Over, IsServed}}
+use Rattle.hls_api.specs.{Acts.{AreActSteps, Knowledge}, OtherActors.OtherActors, ConnectionStates.{History, Stage, Over, IsServed}, Routes.unmended_channel}
 use Rattle.hls_api.specs.Types.{SessionEnd}
 use Rattle.hls_http.specs.declared.end.SessionEnd.TheVariants as ends
 
@@ -16,12 +16,12 @@ EndsSession ends.WriteFailed stage pending = Unit {0}
 EndsSession end stage pending = (stage ≡ Over end) × (pending ≡ [])
 
 -- This prefix of the input was received, and what was sent is written after what was there; each act starts where the one before it
--- led, or where the other actors may have led meanwhile, and there were no other acts. So reading stops only at the end of the input,
+-- led, or where the other actors may have led meanwhile, and there were no other acts. Units aren't mended. So reading stops only at the end of the input,
 -- at a failure, or at a reply with `Connection: close`.
 pub record Session (m : OtherActors) (a : Knowledge) (input out : List ℕ) (contents : Option (List ℕ)) (b : Knowledge) (end : SessionEnd) : Type 0 where
   pub stage : Stage
   pub history : History
-  pub served : IsServed (length a.seen.config.renditions) stage history
+  pub served : IsServed (unmended_channel (length a.seen.config.renditions)) stage history
   pub later : List ℕ
   pub received : input ≡ history.received ++ later
   pub at_end : IsTrue history.ended → later ≡ []

@@ -11,10 +11,16 @@ use hls_http::end::BodyEnd;
 pub struct IngestCounts {
     /// New init sections.
     pub inits: u64,
-    /// New units.
+    /// New units that were recorded as they were sent.
     pub units: u64,
     /// Duplicate init sections and units.
     pub repeats: u64,
+    /// New units that were written again. 0 if units aren't mended, as the next two.
+    pub mended: u64,
+    /// Fillers.
+    pub filled: u64,
+    /// Units that weren't recorded.
+    pub dropped: u64,
 }
 
 /// Why a body isn't ingested further.

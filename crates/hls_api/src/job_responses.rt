@@ -70,7 +70,7 @@ pub fn job_response(alloc: Global, job: &Job) -> Result<Response, AllocError>
 }
 
 /// A reply's certificate, which may be partly written.
-fn certificate_response(alloc: Global, reply: Arc<Reply>) -> Result<Response, AllocError>
+pub(crate) fn certificate_response(alloc: Global, reply: Arc<Reply>) -> Result<Response, AllocError>
     ensures { IfOk result (λ a. a ≡ text_answer Status.Done (certificate_file reply.value)) }
 {
     let text = CertificateWriter::new(alloc, reply)?;

@@ -19,6 +19,7 @@ pub mod parse_route;
 mod player_responses;
 mod playlist_cache;
 mod playlist_responses;
+mod programme_responses;
 mod query;
 mod response;
 mod response_body;
@@ -37,10 +38,11 @@ pub use playlist_cache::PlaylistCache;
 pub use playlist_responses::{
     live_master_response, live_playlist_response, path_master_response, run_response,
 };
+pub use programme_responses::programme_response;
 pub use query::{make_request, read_query, resolve_query};
 pub use response::{Response, into_send_buffer};
 pub use response_body::ResponseBody;
-pub use status::status_response;
+pub use status::{metrics_response, status_response};
 pub use text_responses::{
     fault_response, finish_response, ingest_refused_response, ingested_response,
     method_not_allowed_response,

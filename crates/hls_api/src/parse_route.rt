@@ -5,7 +5,9 @@ ghost use Rattle.hls_api.specs.Routes.{route_of};
 ghost use Rattle.hls_api.specs.Exchanges as heard;
 ghost use Rattle.hls_api.specs.Routes as spec;
 
-use crate::route::{JobFile, Route};
+use crate::catchup_query::TimePoint;
+use crate::query::parse_time_point;
+use crate::route::{IngestTarget, JobFile, ProgrammeFile, Route, ServedChannel};
 use hls_core::base::Base;
 use hls_http::method::Method;
 use hls_text::{MAX_DIGITS, are_digits, has_no_leading_zero, parse_digits};
@@ -137,7 +139,51 @@ fn parse_run_route(count: usize, run: &[u8], text: &[u8]) -> Option<Route>
     parse_media_file(run, rendition, &text[slash + 1..])
 }
 
-/// Parses what players load: a playlist by paths, the run, or the media of a run.
+/// Parses the name of a programme's file.
+fn parse_programme_file(count: usize, name: &[u8]) -> Option<ProgrammeFile>
+    ensures { result ≡ spec.programme_file_of count name.now }
+{
+    if name == b"master.m3u8".as_slice() {
+        return Some(ProgrammeFile::Master);
+    }
+    if name == b"certificate.txt".as_slice() {
+        return Some(ProgrammeFile::Certificate);
+    }
+    Some(ProgrammeFile::List(parse_rendition(count, strip_back(b".m3u8", name)?)?))
+}
+
+/// Parses the end of a programme, and its file.
+fn parse_programme_end(count: usize, start: TimePoint, text: &[u8]) -> Option<Route>
+    ensures { result ≡ spec.programme_end_route count start text.now }
+{
+    let slash = find_slash(text)?;
+    let stop = parse_time_point(&text[..slash])?;
+    let file = parse_programme_file(count, &text[slash + 1..])?;
+    Some(Route::Programme(start, stop, file))
+}
+
+/// Parses the start of a programme, its end, and its file.
+fn parse_programme_route(count: usize, text: &[u8]) -> Option<Route>
+    ensures { result ≡ spec.programme_route count text.now }
+{
+    let slash = find_slash(text)?;
+    let start = parse_time_point(&text[..slash])?;
+    parse_programme_end(count, start, &text[slash + 1..])
+}
+
+/// Parses what is in a folder below `/hls/`: a programme, or the media of a run.
+fn parse_media_route(count: usize, folder: &[u8], text: &[u8]) -> Option<Route>
+    ensures { result ≡ spec.media_route count folder.now text.now }
+{
+    if folder == b"programme".as_slice() {
+        if let Some(route) = parse_programme_route(count, text) {
+            return Some(route);
+        }
+    }
+    parse_run_route(count, folder, text)
+}
+
+/// Parses what players load: a playlist by paths, the run, a programme, or the media of a run.
 fn parse_player_route(count: usize, text: &[u8]) -> Option<Route>
     ensures { result ≡ spec.player_route count text.now }
 {
@@ -148,27 +194,39 @@ fn parse_player_route(count: usize, text: &[u8]) -> Option<Route>
         return Some(Route::Run);
     }
     match find_slash(text) {
-        Some(slash) => parse_run_route(count, &text[..slash], &text[slash + 1..]),
+        Some(slash) => parse_media_route(count, &text[..slash], &text[slash + 1..]),
         None => Some(Route::PathList(parse_rendition(count, strip_back(b".m3u8", text)?)?)),
     }
 }
 
 /// Parses a path with a folder.
-fn parse_folder_route(count: usize, path: &[u8]) -> Option<Route>
-    ensures { result ≡ spec.folder_route count path.now }
+fn parse_folder_route(channel: ServedChannel, path: &[u8]) -> Option<Route>
+    ensures { result ≡ spec.folder_route channel path.now }
 {
     if let Some(text) = strip_front(b"/hls/", path) {
-        return parse_player_route(count, text);
+        return parse_player_route(channel.renditions, text);
     }
-    parse_own_folder_route(count, path)
+    parse_own_folder_route(channel, path)
+}
+
+/// Parses the rendition of an encoder.
+fn parse_ingest_route(channel: ServedChannel, number: &[u8]) -> Option<Route>
+    ensures { result ≡ spec.ingest_route channel number.now }
+{
+    let rendition = parse_rendition(channel.renditions, number)?;
+    Some(Route::Ingest(IngestTarget {
+        rendition,
+        mending: channel.mending,
+    }))
 }
 
 /// Parses a path with a folder of the channel itself.
-fn parse_own_folder_route(count: usize, path: &[u8]) -> Option<Route>
-    ensures { result ≡ spec.own_folder_route count path.now }
+fn parse_own_folder_route(channel: ServedChannel, path: &[u8]) -> Option<Route>
+    ensures { result ≡ spec.own_folder_route channel path.now }
 {
+    let count = channel.renditions;
     if let Some(number) = strip_front(b"/ingest/", path) {
-        return Some(Route::Ingest(parse_rendition(count, number)?));
+        return parse_ingest_route(channel, number);
     }
     if let Some(number) = strip_front(b"/finish/", path) {
         return Some(Route::Finish(parse_rendition(count, number)?));
@@ -185,17 +243,20 @@ fn parse_own_folder_route(count: usize, path: &[u8]) -> Option<Route>
     parse_job_route(count, strip_front(b"/job/", path)?)
 }
 
-/// Returns what a path names in a channel of `count` renditions.
-pub fn parse_route(count: usize, path: &[u8]) -> Option<Route>
-    ensures { result ≡ route_of count path.now }
+/// Returns what a path names in a channel.
+pub fn parse_route(channel: ServedChannel, path: &[u8]) -> Option<Route>
+    ensures { result ≡ route_of channel path.now }
 {
     if path == b"/status".as_slice() {
         return Some(Route::Status);
     }
+    if path == b"/metrics".as_slice() {
+        return Some(Route::Metrics);
+    }
     if path == b"/catchup".as_slice() {
         return Some(Route::CatchUp);
     }
-    parse_folder_route(count, path)
+    parse_folder_route(channel, path)
 }
 
 fn is_sent(method: Method) -> bool

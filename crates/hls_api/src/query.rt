@@ -15,7 +15,7 @@ use hls_text::{MAX_DIGITS, parse_digits};
 use std::alloc::{AllocError, Global};
 
 /// Parses a moment: 1 to 16 digits, or an instant.
-fn parse_time_point(text: &[u8]) -> Option<TimePoint>
+pub(crate) fn parse_time_point(text: &[u8]) -> Option<TimePoint>
     ensures { result ≡ time_point_of text.now }
 {
     match parse_digits(text, MAX_DIGITS) {

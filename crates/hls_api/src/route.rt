@@ -1,10 +1,27 @@
 //! The routes of a server.
 
+use crate::catchup_query::TimePoint;
+use hls_mend_laws::settings::MendSettings;
+
+/// What paths are read for: how many renditions the channel has, and how far their units are mended, if they are.
+#[derive(Clone, Copy, Drop)]
+pub struct ServedChannel {
+    pub renditions: usize,
+    pub mending: Option<MendSettings>,
+}
+
+/// What an encoder's body is for: a rendition, and how far its units are mended, if they are.
+#[derive(Clone, Copy, Debug, PartialEq, Eq, Drop)]
+pub struct IngestTarget {
+    pub rendition: usize,
+    pub mending: Option<MendSettings>,
+}
+
 /// What a path names. Renditions count from 0 and are those of the channel; jobs count from 1.
 #[derive(Clone, Copy, Debug, PartialEq, Eq, Drop)]
 pub enum Route {
     /// `/ingest/<r>`.
-    Ingest(usize),
+    Ingest(IngestTarget),
     /// `/finish/<r>`.
     Finish(usize),
     /// `/live/master.m3u8`.
@@ -21,6 +38,8 @@ pub enum Route {
     JobFile(u64, JobFile),
     /// `/status`.
     Status,
+    /// `/metrics`.
+    Metrics,
     /// `/hls/master.m3u8`.
     PathMaster,
     /// `/hls/<r>.m3u8`.
@@ -31,6 +50,19 @@ pub enum Route {
     InitSection([u8; 16], usize),
     /// `/hls/<run>/<r>/<first>-<last>.m4s`: the rendition's bytes from the first to the last one.
     Segment([u8; 16], usize, u64, u64),
+    /// `/hls/programme/<from>/<to>/` and a file: the programme's start, its end, and the file.
+    Programme(TimePoint, TimePoint, ProgrammeFile),
+}
+
+/// A file of a programme by its address.
+#[derive(Clone, Copy, Debug, PartialEq, Eq, Drop)]
+pub enum ProgrammeFile {
+    /// `master.m3u8`.
+    Master,
+    /// `<r>.m3u8`.
+    List(usize),
+    /// `certificate.txt`.
+    Certificate,
 }
 
 /// A file of a job.

@@ -1,6 +1,7 @@
 //! Writes paths, as [`parse_route`](crate::parse_route::parse_route) reads them.
 
-use crate::route::{JobFile, Route};
+use crate::catchup_query::TimePoint;
+use crate::route::{JobFile, ProgrammeFile, Route};
 use std::fmt::{self, Display, Formatter, Write};
 
 /// The path of a route; `-` for a path that named none.
@@ -11,7 +12,7 @@ impl Display for RoutePath {
     fn fmt<W: Write>(&self, f: &mut Formatter<W>) -> fmt::Result {
         match self.0 {
             None => f.write_str("-"),
-            Some(Route::Ingest(n)) => write!(f, "/ingest/{n}"),
+            Some(Route::Ingest(target)) => write!(f, "/ingest/{}", target.rendition),
             Some(Route::Finish(n)) => write!(f, "/finish/{n}"),
             Some(Route::LiveMaster) => f.write_str("/live/master.m3u8"),
             Some(Route::LiveList(n)) => write!(f, "/live/{n}.m3u8"),
@@ -25,6 +26,7 @@ impl Display for RoutePath {
                 write!(f, "/job/{id}/certificate.txt")
             }
             Some(Route::Status) => f.write_str("/status"),
+            Some(Route::Metrics) => f.write_str("/metrics"),
             Some(Route::PathMaster) => f.write_str("/hls/master.m3u8"),
             Some(Route::PathList(n)) => write!(f, "/hls/{n}.m3u8"),
             Some(Route::Run) => f.write_str("/hls/run"),
@@ -38,7 +40,30 @@ impl Display for RoutePath {
                 write_run(f, &run)?;
                 write!(f, "/{n}/{first}-{last}.m4s")
             }
+            Some(Route::Programme(start, stop, file)) => {
+                f.write_str("/hls/programme/")?;
+                write_time(f, start)?;
+                write_time(f, stop)?;
+                write_file(f, file)
+            }
         }
+    }
+}
+
+/// Writes a time and a slash; an instant by its microseconds since 1970, after `@`.
+fn write_time<W: Write>(f: &mut Formatter<W>, time: TimePoint) -> fmt::Result {
+    match time {
+        TimePoint::Time(us) => write!(f, "{us}/"),
+        TimePoint::Instant(us) => write!(f, "@{us}/"),
+    }
+}
+
+/// Writes the name of a programme's file.
+fn write_file<W: Write>(f: &mut Formatter<W>, file: ProgrammeFile) -> fmt::Result {
+    match file {
+        ProgrammeFile::Master => f.write_str("master.m3u8"),
+        ProgrammeFile::List(n) => write!(f, "{n}.m3u8"),
+        ProgrammeFile::Certificate => f.write_str("certificate.txt"),
     }
 }
 

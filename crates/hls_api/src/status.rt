@@ -1,4 +1,4 @@
-//! The status of a channel, as a few numbers.
+//! The status of a channel, as a few numbers, and its metrics.
 
 ghost use Rattle.std.specs.Prelude.{◌≡◌, ◌+◌, ◌++◌, IfOk, length};
 ghost use Rattle.hls_places_laws.specs.Line.Live.{segments_of};
@@ -11,7 +11,9 @@ use crate::text_responses::text_response;
 use hls_core::place_search::kept_place_count;
 use hls_core::snapshot::Snapshot;
 use hls_http::response_parts::Status;
+use hls_jobs::served_version;
 use hls_live::LiveLine;
+use hls_metrics::{Measured, write_metrics};
 use hls_text::push_number;
 use std::alloc::{AllocError, Global};
 
@@ -44,8 +46,8 @@ fn served_removed(snapshot: &Snapshot) -> u64
 }
 
 /// The status of a channel with `jobs` jobs: five lines with the numbers of log entries, places with no trimmed fragment, segments of
-/// the live line, segments that slid out, and jobs. Segments that precede
-/// this process count.
+/// the live line, segments that slid out, and jobs. Log entries and segments
+/// that precede this process count.
 pub fn status_response(
     alloc: Global,
     snapshot: &Snapshot,
@@ -55,10 +57,23 @@ pub fn status_response(
 {
     let line = snapshot.line();
     let mut out = Vec::new(alloc);
-    push_status_row(&mut out, b"version", snapshot.version())?;
+    push_status_row(&mut out, b"version", served_version(snapshot))?;
     push_status_row(&mut out, b"places", kept_place_count(snapshot))?;
     push_status_row(&mut out, b"segments", count_live_segments(line))?;
     push_status_row(&mut out, b"removed", served_removed(snapshot))?;
     push_status_row(&mut out, b"jobs", jobs as u64)?;
     Ok(text_response(Status::Done, out))
+}
+
+/// The metrics of a channel with `jobs` jobs, and what its server measured, in Prometheus' text format.
+pub fn metrics_response(
+    alloc: Global,
+    snapshot: &Snapshot,
+    jobs: usize,
+    measured: &Measured,
+) -> Result<Response, AllocError>
+    ensures { IfOk result (λ a. a ≡ spec.metrics_answer snapshot.now jobs measured.now) }
+{
+    let text = write_metrics(alloc, snapshot, jobs, measured)?;
+    Ok(text_response(Status::Done, text))
 }

@@ -3,7 +3,7 @@
 ghost use Rattle.std.specs.Prelude.{◌≡◌, ◌++◌, ◌∷◌, codes, string_bytes, IfOk};
 ghost use Rattle.hls_http.specs.ResponseText.{refusal_body};
 ghost use Rattle.hls_core.specs.FaultName.{name_of};
-ghost use Rattle.hls_api.specs.{Faults.{core_status, status_of}, Ingest.counts_text, Responses.text_answer, Routes.methods_of};
+ghost use Rattle.hls_api.specs.{Faults.{core_status, status_of}, Ingest.{counts_before, counts_text, mended_counts_text}, Responses.text_answer, Routes.methods_of};
 ghost use Rattle.hls_core_laws.specs.RefusalName as core_names;
 ghost use Rattle.hls_api.specs.Responses as spec;
 
@@ -84,23 +84,58 @@ fn done_response(alloc: Global, text: &[u8]) -> Result<Response, AllocError>
     Ok(text_response(Status::Done, body))
 }
 
-/// Writes the counts of what was accepted of an encoder's body.
-fn counts_text(alloc: Global, ingest_counts: IngestCounts) -> Result<String, AllocError>
-    ensures { IfOk result (λ text. string_bytes text ≡ counts_text ingest_counts) }
+/// Writes what was accepted of an encoder's body as it was sent, and after it this text.
+fn counts_before(
+    alloc: Global,
+    text: &str,
+    ingest_counts: IngestCounts,
+) -> Result<String, AllocError>
+    ensures { IfOk result (λ all. string_bytes all ≡ counts_before text.entry.now ingest_counts) }
 {
     let (inits, units, repeats) = (
         ingest_counts.inits,
         ingest_counts.units,
         ingest_counts.repeats,
     );
-    format!(in alloc; "init {inits} accepted {units} repeated {repeats}\n")
+    format!(in alloc; "init {inits} accepted {units} repeated {repeats}{text}")
 }
 
-/// The response to an encoder's body that was accepted completely: `init 1 accepted 4 repeated 0`.
-pub fn ingested_response(alloc: Global, ingest_counts: IngestCounts) -> Result<Response, AllocError>
-    ensures { IfOk result (λ a. a ≡ text_answer Status.Done (counts_text ingest_counts)) }
+/// Writes what was mended of an encoder's body.
+fn mended_counts_text(alloc: Global, ingest_counts: IngestCounts) -> Result<String, AllocError>
+    ensures { IfOk result (λ text. string_bytes text ≡ mended_counts_text ingest_counts) }
 {
-    let text = counts_text(alloc, ingest_counts)?;
+    let (mended, filled, dropped) = (
+        ingest_counts.mended,
+        ingest_counts.filled,
+        ingest_counts.dropped,
+    );
+    format!(in alloc; " mended {mended} filled {filled} dropped {dropped}\n")
+}
+
+/// Writes the counts of an encoder's body.
+fn counts_text(
+    alloc: Global,
+    is_mended: bool,
+    ingest_counts: IngestCounts,
+) -> Result<String, AllocError>
+    ensures { IfOk result (λ text. string_bytes text ≡ counts_text is_mended ingest_counts) }
+{
+    if !is_mended {
+        return counts_before(alloc, "\n", ingest_counts);
+    }
+    let text = mended_counts_text(alloc, ingest_counts)?;
+    counts_before(alloc, text.as_str(), ingest_counts)
+}
+
+/// The response to an encoder's body that was accepted completely: `init 1 accepted 4 repeated 0`, and more counts if its units are mended.
+pub fn ingested_response(
+    alloc: Global,
+    is_mended: bool,
+    ingest_counts: IngestCounts,
+) -> Result<Response, AllocError>
+    ensures { IfOk result (λ a. a ≡ text_answer Status.Done (counts_text is_mended ingest_counts)) }
+{
+    let text = counts_text(alloc, is_mended, ingest_counts)?;
     Ok(text_response(Status::Done, text.into_bytes()))
 }
 
@@ -108,14 +143,15 @@ pub fn ingested_response(alloc: Global, ingest_counts: IngestCounts) -> Result<R
 pub fn ingest_refused_response(
     alloc: Global,
     fault: StreamFault,
+    is_mended: bool,
     ingest_counts: IngestCounts,
 ) -> Result<Response, AllocError>
-    ensures { IfOk result (λ a. a ≡ text_answer (status_of fault) (codes "refused " ++ (name_of fault ++ (32 ∷ counts_text ingest_counts)))) }
+    ensures { IfOk result (λ a. a ≡ text_answer (status_of fault) (codes "refused " ++ (name_of fault ++ (32 ∷ counts_text is_mended ingest_counts)))) }
 {
     let mut body = Vec::from_slice(alloc, b"refused ")?;
     body.extend_from_slice(fault.name().as_bytes())?;
     body.push(b' ')?;
-    let ingest_counts = counts_text(alloc, ingest_counts)?;
+    let ingest_counts = counts_text(alloc, is_mended, ingest_counts)?;
     body.extend_from_slice(ingest_counts.as_bytes())?;
     Ok(text_response(stream_fault_status(fault), body))
 }

@@ -63,6 +63,9 @@ const COUNTS: IngestCounts = IngestCounts {
     inits: 1,
     units: 2,
     repeats: 0,
+    mended: 0,
+    filled: 0,
+    dropped: 0,
 };
 
 fn part(alloc: Global, snapshot: &Arc<Snapshot>, asked: RangeSpec) -> Result<Response, AllocError> {
@@ -107,10 +110,11 @@ fn response(
         RequestCase::Cached => cached_list_response(alloc, snapshot),
         RequestCase::Part => part(alloc, snapshot, RangeSpec::Between(0, 7)),
         RequestCase::Outside => part(alloc, snapshot, RangeSpec::From(2600)),
-        RequestCase::Ingested => ingested_response(alloc, COUNTS),
+        RequestCase::Ingested => ingested_response(alloc, true, COUNTS),
         RequestCase::Refused => ingest_refused_response(
             alloc,
             StreamFault::Core(Refusal::RecordingFull),
+            false,
             COUNTS,
         ),
         RequestCase::Finished => finish_response(alloc, Ok(Done::Repeat)),

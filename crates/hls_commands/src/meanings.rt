@@ -45,7 +45,8 @@ Full: a recording would pass 2^40 bytes, or a store is full. Start another chann
 Gone: a byte of what was asked for was trimmed. Read the playlist anew, or keep more (--keep).
 HeadTooLarge: the head of a request has more than 16384 bytes or 64 fields. Send fewer or shorter ones; cookies are the most likely.
 InitChanged: another init section came than the rendition has: codec, size or timescale changed, or another encoder sends. \
-Send that stream to another rendition or channel.
+With serve --mend, one that differs only in bit rates, times, names and metadata is a repeat. Send any other stream to another \
+rendition or channel.
 LedgerFull: the log has 4194304 entries, and takes no more. Start another process and point the encoders to it; fewer, longer \
 fragments fill it later.
 MdatAlone: an mdat comes without a moof before it: the file isn't fragmented, or holds samples before its first moof. Write it \

@@ -5,7 +5,7 @@ use Rattle.hls_http.specs.{declared.fault.HttpFault.HttpFault, declared.request_
 use Rattle.hls_http.specs.ResponseText.{fault_status, is_success, out_of_memory_response}
 use Rattle.hls_core_laws.specs.{declared.{event.Event.TheVariants.Finish, refusal.Refusal.{Refusal, TheVariants.Memory}}, State.State}
 use Rattle.hls_core_laws.specs.declared.done.Done.{Done as Moved}
-use Rattle.hls_catchup.specs.{declared.{fault.JobFault.JobFault, jobs.job.Job.Job}, Jobs.Shared.HasRemoved}
+use Rattle.hls_catchup.specs.{declared.{fault.JobFault.JobFault, jobs.job.Job.Job}, Jobs.{JobLine.served_version, Shared.HasRemoved}}
 use Rattle.hls_api.specs.Acts.{Act, ActsChangeNothing, Knowledge, RecordsAdd, RecordsLook, RecordsRemove, RecordsSubmit}
 use Rattle.hls_api.specs.{JobResponses.added_answer, JobResponses.removed_answer, JobTable.IsAddResult, JobTable.IsGetResult, declared.route.Route.Route}
 use Rattle.hls_api.specs.{Queries.request_for, Queries.catchup_params_of, declared.catchup_query.CatchupQuery.CatchupQuery, declared.catchup_query.QueryFault.QueryFault, declared.catchup_params.CatchupParams.CatchupParams}
@@ -126,10 +126,10 @@ removed_made id a b result (Err e) asked removes is = inr (removed_answer result
 
 pub added_made : {E : Type 0} (query : CatchupQuery) (s : State) (params : CatchupParams) (a z b : List Act) (result : Result ℕ JobFault) (response : Result ResponseData E) → RecordsLook a s z
     → catchup_params_of s.config.epoch query ≡ Ok params → RecordsAdd z s (request_for s params) result b → IsAddResult s (request_for s params) result
-    → IfOk response (λ x. x ≡ added_answer (length s.log) result) → IsMadeResponse (AddsCatchupJob query a b) a b response
+    → IfOk response (λ x. x ≡ added_answer (served_version s) result) → IsMadeResponse (AddsCatchupJob query a b) a b response
 added_made query s params a z b result response looks asks asked adds is = by response is
   where
-    job : (x : ResponseData) → x ≡ added_answer (length s.log) result → AddsCatchupJob query a b x
+    job : (x : ResponseData) → x ≡ added_answer (served_version s) result → AddsCatchupJob query a b x
     job x told = record {
       state = s;
       looked = z;
@@ -137,9 +137,9 @@ added_made query s params a z b result response looks asks asked adds is = by re
       adds = subst (λ (w : Result CatchupParams QueryFault). AddsValidJob s w z b x) (sym asks) (record { result = result; asked = asked; adds = adds; answer_is = told });
     }
 
-    by : {E : Type 0} (response : Result ResponseData E) → IfOk response (λ x. x ≡ added_answer (length s.log) result) → IsMadeResponse (AddsCatchupJob query a b) a b response
+    by : {E : Type 0} (response : Result ResponseData E) → IfOk response (λ x. x ≡ added_answer (served_version s) result) → IsMadeResponse (AddsCatchupJob query a b) a b response
     by (Ok x) told = job x told
-    by (Err e) told = inr (added_answer (length s.log) result, job _ refl)
+    by (Err e) told = inr (added_answer (served_version s) result, job _ refl)
 
 -- for what is only shown nothing is asked
 pub shown_made : {E : Type 0} (P : ResponseData → Type 0) (a : List Act) (response : Result ResponseData E) → IfOk response P → IsMadeResponse (λ x. (a ≡ a) × P x) a a response

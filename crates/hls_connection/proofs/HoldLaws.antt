@@ -1,4 +1,5 @@
 -- What holds of a connection, from one step to the next.
+use Rattle.hls_api.specs.declared.route.ServedChannel.{ServedChannel}
 use Rattle.std.proofs.Common.{◌≡◌, ◌<◌, ◌==◌, ◌∙◌, ◌⊎◌, ℕ, Bool, true, false, List, [], ◌∷◌, ◌++◌, length, flat_map, Some, IsTrue, inl, inr, refl, sym, ap, subst, arith, append_assoc, append-nil, length-append}
 use Rattle.std.proofs.{lemmas.{Grind.flat_map-append, List.nil_from_length, Bool.{cond-false, eqb-false, eqb-true}}, Math.Bool.and-false}
 use Rattle.httparse.specs.Grammar.{RequestHead, print_request}
@@ -29,21 +30,21 @@ plainly P a b all = rw (append-nil a, append-nil b) at (all [])
 pub flat_push : {X A : Type 0} (f : X → List A) (xs : List X) (x : X) → flat_map f (xs ++ x ∷ []) ≡ flat_map f xs ++ f x
 flat_push f xs x = flat_map-append f xs (x ∷ []) ∙ ap (λ t. flat_map f xs ++ t) (append-nil (f x))
 
-serves_push : (over : List Exchange) (count : ℕ) (x : Exchange) (stream middle rest : List ℕ) → Serves count stream over middle → IsExchange count middle x.acts (due_in x) rest
-    → Serves count stream (over ++ x ∷ []) rest
-serves_push [] count x stream middle rest serves exchange = (rest, subst (λ (t : List ℕ). IsExchange count t x.acts (due_in x) rest) serves exchange, refl)
-serves_push (y ∷ ys) count x stream middle rest (next, first, serves) exchange = (next, first, serves_push ys count x next middle rest serves exchange)
+serves_push : (over : List Exchange) (channel : ServedChannel) (x : Exchange) (stream middle rest : List ℕ) → Serves channel stream over middle → IsExchange channel middle x.acts (due_in x) rest
+    → Serves channel stream (over ++ x ∷ []) rest
+serves_push [] channel x stream middle rest serves exchange = (rest, subst (λ (t : List ℕ). IsExchange channel t x.acts (due_in x) rest) serves exchange, refl)
+serves_push (y ∷ ys) channel x stream middle rest (next, first, serves) exchange = (next, first, serves_push ys channel x next middle rest serves exchange)
 
 -- ---- one step more
 
 -- a refusal with success or not ends the connection so
-stands_over : (success ended : Bool) {count : ℕ} {rest : List ℕ} {acts : List Act} {text unread : List ℕ} → EndsByReply count success rest acts text unread
-    → IsInState (state_after true success) count ended rest acts text unread
+stands_over : (success ended : Bool) {channel : ServedChannel} {rest : List ℕ} {acts : List Act} {text unread : List ℕ} → EndsByReply channel success rest acts text unread
+    → IsInState (state_after true success) channel ended rest acts text unread
 stands_over true ended x = inr x
 stands_over false ended x = x
 
 -- where nothing was asked yet for what is looked at, and nothing waits: this is asked, handed out, and unread then
-module _ {count : ℕ} {old : ConnectionState} {h : History} (x : IsConsistent count old h) (nothing : x.acts ≡ []) (empty : h.pending ≡ []) (acts : List Act) (text unread : List ℕ) where
+module _ {channel : ServedChannel} {old : ConnectionState} {h : History} (x : IsConsistent channel old h) (nothing : x.acts ≡ []) (empty : h.pending ≡ []) (acts : List Act) (text unread : List ℕ) where
   abbrev after : History
   after = record h { unread = unread; acts = h.acts ++ acts; pending = text }
 
@@ -56,7 +57,7 @@ module _ {count : ℕ} {old : ConnectionState} {h : History} (x : IsConsistent c
       ap (λ (t : List ℕ). t ++ text) sent ∙ append_assoc (text_of x.over) x.text text ∙ ap (λ (t : List ℕ). text_of x.over ++ t) (sym is)
 
   -- no request is over
-  pub goes_to : {new : ConnectionState} (due : List ℕ) → due ≡ x.text ++ text → IsInState new count h.ended x.rest acts due unread → IsConsistent count new after
+  pub goes_to : {new : ConnectionState} (due : List ℕ) → due ≡ x.text ++ text → IsInState new channel h.ended x.rest acts due unread → IsConsistent channel new after
   goes_to due is stage_is = record {
     over = x.over;
     rest = x.rest;
@@ -70,13 +71,13 @@ module _ {count : ℕ} {old : ConnectionState} {h : History} (x : IsConsistent c
 
   -- one is, and the connection goes on
   goes_on : (due : List ℕ) (success : Bool) → due ≡ x.text ++ text
-      → ((later : List ℕ) → IsExchange count (x.rest ++ later) acts (record { text = due; closing = false; success = success }) (unread ++ later)) → IsConsistent count states.Head after
+      → ((later : List ℕ) → IsExchange channel (x.rest ++ later) acts (record { text = due; closing = false; success = success }) (unread ++ later)) → IsConsistent channel states.Head after
   goes_on due success is exchange =
       let e : Exchange = record { acts = acts; reply = due; success = success } in
       record {
         over = x.over ++ e ∷ [];
         rest = unread;
-        serves = λ later. serves_push x.over count e (h.received ++ later) (x.rest ++ later) (unread ++ later) (x.serves later) (exchange later);
+        serves = λ later. serves_push x.over channel e (h.received ++ later) (x.rest ++ later) (unread ++ later) (x.serves later) (exchange later);
         acts = [];
         asked_is = asked ∙ sym (flat_push (λ (e : Exchange). e.acts) x.over e) ∙ sym (append-nil (acts_of (x.over ++ e ∷ [])));
         text = [];
@@ -85,38 +86,38 @@ module _ {count : ℕ} {old : ConnectionState} {h : History} (x : IsConsistent c
       }
 
   -- the connection is over
-  ends_by : (due : DueResponse) → due.closing ≡ true → due.text ≡ x.text ++ text → IsExchange count x.rest acts due unread ⊎ (RefusesHead x.rest due × (acts ≡ []) × (unread ≡ x.rest))
-      → IsConsistent count (state_after true due.success) after
+  ends_by : (due : DueResponse) → due.closing ≡ true → due.text ≡ x.text ++ text → IsExchange channel x.rest acts due unread ⊎ (RefusesHead x.rest due × (acts ≡ []) × (unread ≡ x.rest))
+      → IsConsistent channel (state_after true due.success) after
   ends_by due closing is exchange =
       goes_to due.text is (stands_over due.success h.ended (record { due = due; closing = closing; success_is = refl; text_is = refl; exchange = exchange }))
 
 -- one is responded to
-pub replied : {count : ℕ} {old : ConnectionState} {h : History} (x : IsConsistent count old h) → x.acts ≡ [] → h.pending ≡ [] → {acts : List Act} {unread : List ℕ} {step : Transition} → RespondsTo count x.rest x.text acts unread step
-    → IsConsistent count step.state (record h { unread = unread; acts = h.acts ++ step.acts; pending = step.output })
-replied {count} {h} x nothing empty {acts} {unread} {step} r =
-    subst (λ (s : Transition). IsConsistent count s.state (record h { unread = unread; acts = h.acts ++ s.acts; pending = s.output })) (sym r.step_is) (by r.due.text r.due.closing r.due.success r.text_is r.is)
+pub replied : {channel : ServedChannel} {old : ConnectionState} {h : History} (x : IsConsistent channel old h) → x.acts ≡ [] → h.pending ≡ [] → {acts : List Act} {unread : List ℕ} {step : Transition} → RespondsTo channel x.rest x.text acts unread step
+    → IsConsistent channel step.state (record h { unread = unread; acts = h.acts ++ step.acts; pending = step.output })
+replied {channel} {h} x nothing empty {acts} {unread} {step} r =
+    subst (λ (s : Transition). IsConsistent channel s.state (record h { unread = unread; acts = h.acts ++ s.acts; pending = s.output })) (sym r.step_is) (by r.due.text r.due.closing r.due.success r.text_is r.is)
   where
     by : (due : List ℕ) (closing success : Bool) → due ≡ x.text ++ step.output
-        → ((later : List ℕ) → IsExchange count (x.rest ++ later) acts (record { text = due; closing = closing; success = success }) (unread ++ later))
-        → IsConsistent count (state_after closing success) (record h { unread = unread; acts = h.acts ++ acts; pending = step.output })
+        → ((later : List ℕ) → IsExchange channel (x.rest ++ later) acts (record { text = due; closing = closing; success = success }) (unread ++ later))
+        → IsConsistent channel (state_after closing success) (record h { unread = unread; acts = h.acts ++ acts; pending = step.output })
     by due false success is exchange = goes_on x nothing empty acts step.output unread due success is exchange
     by due true success is exchange =
         let all : DueResponse = record { text = due; closing = true; success = success } in
-        ends_by x nothing empty acts step.output unread all refl is (inl (plainly (λ a b. IsExchange count a acts all b) x.rest unread exchange))
+        ends_by x nothing empty acts step.output unread all refl is (inl (plainly (λ a b. IsExchange channel a acts all b) x.rest unread exchange))
 
 -- nothing is handed out
-pub stays : {count : ℕ} {old new : ConnectionState} {h : History} (acts : List Act) (unread : List ℕ) (x : IsConsistent count old h) → x.acts ≡ [] → h.pending ≡ []
-    → IsInState new count h.ended x.rest acts x.text unread → IsConsistent count new (record h { unread = unread; acts = h.acts ++ acts; pending = [] })
+pub stays : {channel : ServedChannel} {old new : ConnectionState} {h : History} (acts : List Act) (unread : List ℕ) (x : IsConsistent channel old h) → x.acts ≡ [] → h.pending ≡ []
+    → IsInState new channel h.ended x.rest acts x.text unread → IsConsistent channel new (record h { unread = unread; acts = h.acts ++ acts; pending = [] })
 stays acts unread x nothing empty stage_is = goes_to x nothing empty acts [] unread x.text (sym (append-nil x.text)) stage_is
 
 -- a request whose body was discarded is handled
-pub handled : {count : ℕ} {old : ConnectionState} {h : History} (x : IsConsistent count old h) → x.acts ≡ [] → h.pending ≡ [] → {unread : List ℕ} {step : Transition} → IsHandled count x.rest x.text unread step
-    → IsConsistent count step.state (record h { unread = unread; acts = h.acts ++ step.acts; pending = step.output })
+pub handled : {channel : ServedChannel} {old : ConnectionState} {h : History} (x : IsConsistent channel old h) → x.acts ≡ [] → h.pending ≡ [] → {unread : List ℕ} {step : Transition} → IsHandled channel x.rest x.text unread step
+    → IsConsistent channel step.state (record h { unread = unread; acts = h.acts ++ step.acts; pending = step.output })
 handled x nothing empty (inl (acts, responds)) = replied x nothing empty responds
-handled {count} {old} {h} x nothing empty {unread} {step} (inr (inl (w, is, writing))) =
-    subst (λ (s : Transition). IsConsistent count s.state (record h { unread = unread; acts = h.acts ++ s.acts; pending = s.output })) (sym is) (stays [] unread x nothing empty (writing, refl))
-handled {count} {old} {h} x nothing empty {unread} {step} (inr (inr (w, is, waiting))) =
-    subst (λ (s : Transition). IsConsistent count s.state (record h { unread = unread; acts = h.acts ++ s.acts; pending = s.output })) (sym is) (stays [] unread x nothing empty (waiting, refl))
+handled {channel} {old} {h} x nothing empty {unread} {step} (inr (inl (w, is, writing))) =
+    subst (λ (s : Transition). IsConsistent channel s.state (record h { unread = unread; acts = h.acts ++ s.acts; pending = s.output })) (sym is) (stays [] unread x nothing empty (writing, refl))
+handled {channel} {old} {h} x nothing empty {unread} {step} (inr (inr (w, is, waiting))) =
+    subst (λ (s : Transition). IsConsistent channel s.state (record h { unread = unread; acts = h.acts ++ s.acts; pending = s.output })) (sym is) (stays [] unread x nothing empty (waiting, refl))
 
 -- the reply to what can't become a head closes the connection
 closes : (fault : HttpFault) (due : DueResponse) → IsDueWithoutHead fault due → due.closing ≡ true
@@ -133,22 +134,22 @@ refused_last fault r =
     over false = refl
 
 -- what can't become a head is refused
-pub head_refused : {count : ℕ} {h : History} {step : Transition} (fault : HttpFault) (x : IsConsistent count states.Head h) → h.pending ≡ []
+pub head_refused : {channel : ServedChannel} {h : History} {step : Transition} (fault : HttpFault) (x : IsConsistent channel states.Head h) → h.pending ≡ []
     → ((due : DueResponse) → IsDueWithoutHead fault due → RefusesHead h.unread due) → RespondsWith (IsDueWithoutHead fault) [] [] step
-    → IsConsistent count step.state (record h { acts = h.acts ++ step.acts; pending = step.output })
-head_refused {count} {h} {step} fault x empty refuses r =
+    → IsConsistent channel step.state (record h { acts = h.acts ++ step.acts; pending = step.output })
+head_refused {channel} {h} {step} fault x empty refuses r =
     let closing : r.due.closing ≡ true = closes fault r.due r.is in
     let refused = subst (λ (t : List ℕ). RefusesHead t r.due) x.stage_is.0 (refuses r.due r.is) in
     let is = r.text_is ∙ ap (λ (t : List ℕ). t ++ step.output) (sym x.stage_is.2) in
-    subst (λ (s : Transition). IsConsistent count s.state (record h { acts = h.acts ++ s.acts; pending = s.output })) (sym r.step_is)
+    subst (λ (s : Transition). IsConsistent channel s.state (record h { acts = h.acts ++ s.acts; pending = s.output })) (sym r.step_is)
     (rw closing (ends_by x x.stage_is.1 empty [] step.output h.unread r.due closing is (inr (refused, refl, x.stage_is.0))))
 
 -- no head stands at the front yet
-pub head_waits : (empty ended : Bool) (count : ℕ) (stream text unread : List ℕ) → (length unread == 0) ≡ empty → IsUnfinished unread
-    → IsBetween stream [] text unread → IsInState (awaited_state empty ended) count ended stream [] text unread
-head_waits empty false count stream text unread is unfinished s = s
-head_waits true true count stream text unread is unfinished s = inl (refl, sym s.0 ∙ nil_from_length unread (eqb-true (length unread) 0 is), s)
-head_waits false true count stream text unread is unfinished s =
+pub head_waits : (empty ended : Bool) (channel : ServedChannel) (stream text unread : List ℕ) → (length unread == 0) ≡ empty → IsUnfinished unread
+    → IsBetween stream [] text unread → IsInState (awaited_state empty ended) channel ended stream [] text unread
+head_waits empty false channel stream text unread is unfinished s = s
+head_waits true true channel stream text unread is unfinished s = inl (refl, sym s.0 ∙ nil_from_length unread (eqb-true (length unread) 0 is), s)
+head_waits false true channel stream text unread is unfinished s =
     (refl, inl (subst IsUnfinished s.0 unfinished, subst (λ (t : List ℕ). 0 < length t) s.0 (omega (arith, eqb-false (length unread) 0 is)), s))
 
 -- a step after which more is to be done, or nothing
@@ -174,13 +175,13 @@ head_takes text head rest x = omega (arith, head_is_some head, ap length x.reads
 no_first : (h : RequestHead) (fault : HttpFault) (closing : Bool) → continue_prefix h (Refuse fault closing) ≡ []
 no_first h fault closing = cond-false (sends_continue h (Refuse fault closing)) _ [] (and-false (expects h.minor (fields_of h)))
 
-module _ {count : ℕ} {h : History} {context : RequestContext} {head : RequestHead} {rest : List ℕ} (x : IsConsistent count states.Head h) (empty : h.pending ≡ [])
-    (reads : ReadsLimitedHead h.unread head rest) (is_context : IsContextOf count head context) where
+module _ {channel : ServedChannel} {h : History} {context : RequestContext} {head : RequestHead} {rest : List ℕ} (x : IsConsistent channel states.Head h) (empty : h.pending ≡ [])
+    (reads : ReadsLimitedHead h.unread head rest) (is_context : IsContextOf channel head context) where
   pub read : (later : List ℕ) → ReadsLimitedHead (x.rest ++ later) head (rest ++ later)
   read later = heads_stay x.rest head rest later (subst (λ (t : List ℕ). ReadsLimitedHead t head rest) x.stage_is.0 reads)
 
-  abbrev pub has_body : (action : BodyFraming → RequestAction) (body : BodyFraming) (text : List ℕ) → (request_of count head).action ≡ action body → text ≡ continue_prefix head (request_of count head).action
-      → HasBody count x.rest text context action body rest
+  abbrev pub has_body : (action : BodyFraming → RequestAction) (body : BodyFraming) (text : List ℕ) → (request_of channel head).action ≡ action body → text ≡ continue_prefix head (request_of channel head).action
+      → HasBody channel x.rest text context action body rest
   has_body action body text is first_is = record {
     first_is = first_is;
     head = head;
@@ -193,21 +194,21 @@ module _ {count : ℕ} {h : History} {context : RequestContext} {head : RequestH
     runs = λ later. NoStep;
   }
 
-  pub begins : {new : ConnectionState} (text : List ℕ) → IsInState new count h.ended x.rest [] text rest → IsConsistent count new (record h { unread = rest; acts = h.acts ++ []; pending = text })
+  pub begins : {new : ConnectionState} (text : List ℕ) → IsInState new channel h.ended x.rest [] text rest → IsConsistent channel new (record h { unread = rest; acts = h.acts ++ []; pending = text })
   begins text stage_is = goes_to x x.stage_is.1 empty [] text rest text (ap (λ (t : List ℕ). t ++ text) (sym x.stage_is.2)) stage_is
 
-  pub refuses : (fault : HttpFault) (closing : Bool) {step : Transition} → (request_of count head).action ≡ Refuse fault closing
+  pub refuses : (fault : HttpFault) (closing : Bool) {step : Transition} → (request_of channel head).action ≡ Refuse fault closing
       → RespondsWith (IsDue head (Refuse fault closing) (fault_answer fault) closing) (continue_prefix head (Refuse fault closing)) [] step
-      → IsConsistent count step.state (record h { unread = rest; acts = h.acts ++ step.acts; pending = step.output })
+      → IsConsistent channel step.state (record h { unread = rest; acts = h.acts ++ step.acts; pending = step.output })
   refuses fault closing action r =
-      let hears : (due : DueResponse) → IsDue head (Refuse fault closing) (fault_answer fault) closing due → (later : List ℕ) → IsExchange count (x.rest ++ later) [] due (rest ++ later)
+      let hears : (due : DueResponse) → IsDue head (Refuse fault closing) (fault_answer fault) closing due → (later : List ℕ) → IsExchange channel (x.rest ++ later) [] due (rest ++ later)
       = λ due is later. record { head = head; following = rest ++ later; reads = read later; follows = rw action (refl, refl, is) } in
       replied x x.stage_is.1 empty (replies_by (x.stage_is.2 ∙ sym (no_first head fault closing)) hears r)
 
 -- nothing was asked for it yet, and any keeper suits it
 begun_suits : (known : Knowledge) (target : BodyTarget) (taken : IngestState) → progress_of taken ≡ no_progress → IsState known.seen → SuitsTarget known target taken
 begun_suits known (targets.Nothing room) taken is valid = tt
-begun_suits known (targets.Encoder rendition reader) taken is valid = record { valid = valid; has = λ init there. absurd (cc (ap (λ (y : Progress). y.init) is, there)) }
+begun_suits known (targets.Encoder encoder reader) taken is valid = record { valid = valid; has = λ init there. absurd (cc (ap (λ (y : Progress). y.init) is, there)) }
 
 pub begun_asks : {context : RequestContext} {route : Route} {body : BodyFraming} {target : BodyTarget} (step : Transition) → BeginsBody context route body target step → IsForTarget target route context → HasNoActs states.Head step
 begun_asks {context} {route} {body} {target} step (taken, is, made) suits = record {
@@ -218,8 +219,8 @@ begun_asks {context} {route} {body} {target} step (taken, is, made) suits = reco
 
 -- ---- a body
 
-abbrev within : {count : ℕ} {stream first : List ℕ} {context : RequestContext} {action : BodyFraming → RequestAction} {last : BodyFraming} {unread : List ℕ} (acts : List Act) (at : HasBody count stream first context action last unread)
-    → AreBodyActs count at.head at.body at.content last acts → IsWithin count stream acts first unread
+abbrev within : {channel : ServedChannel} {stream first : List ℕ} {context : RequestContext} {action : BodyFraming → RequestAction} {last : BodyFraming} {unread : List ℕ} (acts : List Act) (at : HasBody channel stream first context action last unread)
+    → AreBodyActs channel at.head at.body at.content last acts → IsWithin channel stream acts first unread
 within {stream} {last} {unread} acts at asked = record {
   head = at.head;
   following = at.following;
@@ -233,19 +234,19 @@ within {stream} {last} {unread} acts at asked = record {
 }
 
 -- what was asked for a body that is received
-pub body_acts : {count : ℕ} {stream first : List ℕ} {r : ReceivingBody} {unread : List ℕ} (x : IsReceiving count stream first r unread) → AreBodyActs count x.at.head x.at.body x.at.content r.body r.taken.acts
-body_acts {count} {stream} {first} {r} {unread} x = by r.target x.at x.received
+pub body_acts : {channel : ServedChannel} {stream first : List ℕ} {r : ReceivingBody} {unread : List ℕ} (x : IsReceiving channel stream first r unread) → AreBodyActs channel x.at.head x.at.body x.at.content r.body r.taken.acts
+body_acts {channel} {stream} {first} {r} {unread} x = by r.target x.at x.received
   where
-    by : (target : BodyTarget) (at : HasBody count stream first r.context (action_into target) r.body unread) → HasReceived target r.route r.taken at.content r.body
-        → AreBodyActs count at.head at.body at.content r.body r.taken.acts
+    by : (target : BodyTarget) (at : HasBody channel stream first r.context (action_into target) r.body unread) → HasReceived target r.route r.taken at.content r.body
+        → AreBodyActs channel at.head at.body at.content r.body r.taken.acts
     by (targets.Nothing room) at (nothing, all) = inl (at.plan_is, inl nothing)
-    by (targets.Encoder rendition reader) at (is, reached) =
-        inr (at.plan_is, (rendition, sym at.is_context.route ∙ x.route ∙ ap Some is, (progress_of r.taken, reached.taken, refl)))
+    by (targets.Encoder encoder reader) at (is, reached) =
+        inr (at.plan_is, (encoder, sym at.is_context.route ∙ x.route ∙ ap Some is, (progress_of r.taken, reached.taken, refl)))
 
-abbrev pub within_body : {count : ℕ} {stream first : List ℕ} {r : ReceivingBody} {unread : List ℕ} → IsReceiving count stream first r unread → IsWithin count stream r.taken.acts first unread
+abbrev pub within_body : {channel : ServedChannel} {stream first : List ℕ} {r : ReceivingBody} {unread : List ℕ} → IsReceiving channel stream first r unread → IsWithin channel stream r.taken.acts first unread
 within_body {r} x = within r.taken.acts x.at (body_acts x)
 
-abbrev pub within_writing : {count : ℕ} {stream first : List ℕ} {w : WritingResponse} {unread : List ℕ} → IsWriting count stream first w unread → IsWithin count stream w.acts first unread
+abbrev pub within_writing : {channel : ServedChannel} {stream first : List ℕ} {w : WritingResponse} {unread : List ℕ} → IsWriting channel stream first w unread → IsWithin channel stream w.acts first unread
 within_writing {w} x =
     let at = x.discarded.at in
     within w.acts at (inl (
@@ -259,27 +260,27 @@ within_writing {w} x =
       }),
     ))
 
-abbrev pub within_waiting : {count : ℕ} {stream first : List ℕ} {w : WaitingResponse} {unread : List ℕ} → IsWaiting count stream first w unread → IsWithin count stream w.acts first unread
+abbrev pub within_waiting : {channel : ServedChannel} {stream first : List ℕ} {w : WaitingResponse} {unread : List ℕ} → IsWaiting channel stream first w unread → IsWithin channel stream w.acts first unread
 within_waiting {w} x = within w.acts x.discarded.at (inl (x.discarded.at.plan_is, inl x.asked))
 
 -- the input's end cuts it short
-pub cuts : {count : ℕ} {old new : ReceivingBody} {h : History} (unread : List ℕ) (x : IsConsistent count (states.Receive old) h) → h.pending ≡ [] → IsTrue h.ended → IsReceiving count x.rest x.text new unread × IsOpen new.body unread
-    → IsConsistent count (states.Ended ends.CutShort) (record h { unread = unread; acts = h.acts ++ new.taken.acts; pending = [] })
-cuts {count} {old} {new} unread x empty ended w = stays new.taken.acts unread x x.stage_is.1 empty (ended, inr (record { within = within_body w.0; unfinished = w.1 }))
+pub cuts : {channel : ServedChannel} {old new : ReceivingBody} {h : History} (unread : List ℕ) (x : IsConsistent channel (states.Receive old) h) → h.pending ≡ [] → IsTrue h.ended → IsReceiving channel x.rest x.text new unread × IsOpen new.body unread
+    → IsConsistent channel (states.Ended ends.CutShort) (record h { unread = unread; acts = h.acts ++ new.taken.acts; pending = [] })
+cuts {channel} {old} {new} unread x empty ended w = stays new.taken.acts unread x x.stage_is.1 empty (ended, inr (record { within = within_body w.0; unfinished = w.1 }))
 
 -- ---- what holds, in the words of connections
 
-stands_as : (state : ConnectionState) (count : ℕ) (ended : Bool) (stream : List ℕ) (acts : List Act) (text unread : List ℕ) → IsInState state count ended stream acts text unread
-    → IsAtStage (stage_of state) count ended stream (acts ++ current_acts state) text unread
-stands_as states.Head count ended stream acts text unread s = (s.0, append-nil acts ∙ s.1, s.2)
-stands_as (states.Receive r) count ended stream acts text unread s = rw s.1 (within_body s.0)
-stands_as (states.Wait w) count ended stream acts text unread s = rw s.1 (within_waiting s.0)
-stands_as (states.Write w) count ended stream acts text unread s = rw s.1 (within_writing s.0)
-stands_as (states.Ended end) count ended stream acts text unread s =
-    subst (λ (t : List Act). IsAtStage (stage_of (states.Ended end)) count ended stream t text unread) (sym (append-nil acts)) s
+stands_as : (state : ConnectionState) (channel : ServedChannel) (ended : Bool) (stream : List ℕ) (acts : List Act) (text unread : List ℕ) → IsInState state channel ended stream acts text unread
+    → IsAtStage (stage_of state) channel ended stream (acts ++ current_acts state) text unread
+stands_as states.Head channel ended stream acts text unread s = (s.0, append-nil acts ∙ s.1, s.2)
+stands_as (states.Receive r) channel ended stream acts text unread s = rw s.1 (within_body s.0)
+stands_as (states.Wait w) channel ended stream acts text unread s = rw s.1 (within_waiting s.0)
+stands_as (states.Write w) channel ended stream acts text unread s = rw s.1 (within_writing s.0)
+stands_as (states.Ended end) channel ended stream acts text unread s =
+    subst (λ (t : List Act). IsAtStage (stage_of (states.Ended end)) channel ended stream t text unread) (sym (append-nil acts)) s
 
-pub served_of : {count : ℕ} {state : ConnectionState} {h : History} → IsConsistent count state h → IsServed count (stage_of state) (record h { acts = h.acts ++ current_acts state })
-served_of {count} {state} {h} x = record {
+pub served_of : {channel : ServedChannel} {state : ConnectionState} {h : History} → IsConsistent channel state h → IsServed channel (stage_of state) (record h { acts = h.acts ++ current_acts state })
+served_of {channel} {state} {h} x = record {
   over = x.over;
   rest = x.rest;
   serves = x.serves;
@@ -287,27 +288,27 @@ served_of {count} {state} {h} x = record {
   asked = ap (λ (t : List Act). t ++ current_acts state) x.asked_is ∙ append_assoc (acts_of x.over) x.acts (current_acts state);
   text = x.text;
   written = x.written;
-  stage_is = stands_as state count h.ended x.rest x.acts x.text h.unread x.stage_is;
+  stage_is = stands_as state channel h.ended x.rest x.acts x.text h.unread x.stage_is;
 }
 
 -- .. where nothing can be done with what is unread
-abbrev Before : ConnectionState → ℕ → Bool → List ℕ → List ℕ → List ℕ → List Act → Type 0
-Before state count ended stream text unread acts =
-    (s : IsAtStage (stage_of state) count ended stream (acts ++ current_acts state) text unread)
-    × EndsBeforeStep (stage_of state) count ended stream (acts ++ current_acts state) text unread s
+abbrev Before : ConnectionState → ServedChannel → Bool → List ℕ → List ℕ → List ℕ → List Act → Type 0
+Before state channel ended stream text unread acts =
+    (s : IsAtStage (stage_of state) channel ended stream (acts ++ current_acts state) text unread)
+    × EndsBeforeStep (stage_of state) channel ended stream (acts ++ current_acts state) text unread s
 
-stands_before : (state : ConnectionState) (count : ℕ) (ended : Bool) (stream : List ℕ) (acts : List Act) (text unread : List ℕ) → IsInState state count ended stream acts text unread → LacksMore state unread
-    → Before state count ended stream text unread acts
-stands_before states.Head count ended stream acts text unread s lacks = ((s.0, append-nil acts ∙ s.1, s.2), lacks)
-stands_before (states.Receive r) count ended stream acts text unread s lacks =
-    subst (Before (states.Receive r) count ended stream text unread) (sym s.1) (within_body s.0, lacks)
-stands_before (states.Wait w) count ended stream acts text unread s lacks = absurd lacks
-stands_before (states.Write w) count ended stream acts text unread s lacks = absurd lacks
-stands_before (states.Ended end) count ended stream acts text unread s lacks = absurd lacks
+stands_before : (state : ConnectionState) (channel : ServedChannel) (ended : Bool) (stream : List ℕ) (acts : List Act) (text unread : List ℕ) → IsInState state channel ended stream acts text unread → LacksMore state unread
+    → Before state channel ended stream text unread acts
+stands_before states.Head channel ended stream acts text unread s lacks = ((s.0, append-nil acts ∙ s.1, s.2), lacks)
+stands_before (states.Receive r) channel ended stream acts text unread s lacks =
+    subst (Before (states.Receive r) channel ended stream text unread) (sym s.1) (within_body s.0, lacks)
+stands_before (states.Wait w) channel ended stream acts text unread s lacks = absurd lacks
+stands_before (states.Write w) channel ended stream acts text unread s lacks = absurd lacks
+stands_before (states.Ended end) channel ended stream acts text unread s lacks = absurd lacks
 
-pub needs_of : {count : ℕ} {state : ConnectionState} {h : History} → IsConsistent count state h → LacksMore state h.unread → NeedsMore count (stage_of state) (record h { acts = h.acts ++ current_acts state })
-needs_of {count} {state} {h} x lacks =
-    let s = stands_before state count h.ended x.rest x.acts x.text h.unread x.stage_is lacks in
+pub needs_of : {channel : ServedChannel} {state : ConnectionState} {h : History} → IsConsistent channel state h → LacksMore state h.unread → NeedsMore channel (stage_of state) (record h { acts = h.acts ++ current_acts state })
+needs_of {channel} {state} {h} x lacks =
+    let s = stands_before state channel h.ended x.rest x.acts x.text h.unread x.stage_is lacks in
     record {
       served = record {
         over = x.over;
@@ -324,8 +325,8 @@ needs_of {count} {state} {h} x lacks =
 
 -- ---- more is received, and handed out
 
-abbrev body_more : {count : ℕ} {stream first : List ℕ} {context : RequestContext} {action : BodyFraming → RequestAction} {last : BodyFraming} {unread : List ℕ} (more : List ℕ) → HasBody count stream first context action last unread
-    → HasBody count (stream ++ more) first context action last (unread ++ more)
+abbrev body_more : {channel : ServedChannel} {stream first : List ℕ} {context : RequestContext} {action : BodyFraming → RequestAction} {last : BodyFraming} {unread : List ℕ} (more : List ℕ) → HasBody channel stream first context action last unread
+    → HasBody channel (stream ++ more) first context action last (unread ++ more)
 body_more {stream} {unread} more at = record {
   head = at.head;
   following = at.following ++ more;
@@ -338,12 +339,12 @@ body_more {stream} {unread} more at = record {
   first_is = at.first_is;
 }
 
-stands_more : (state : ConnectionState) (count : ℕ) (ended now : Bool) (stream : List ℕ) (acts : List Act) (text unread more : List ℕ) → IsNotOverIn state
-    → IsInState state count ended stream acts text unread → IsInState state count now (stream ++ more) acts text (unread ++ more)
-stands_more states.Head count ended now stream acts text unread more going s = (ap (λ (t : List ℕ). t ++ more) s.0, s.1, s.2)
-stands_more (states.Receive r) count ended now stream acts text unread more going s =
+stands_more : (state : ConnectionState) (channel : ServedChannel) (ended now : Bool) (stream : List ℕ) (acts : List Act) (text unread more : List ℕ) → IsNotOverIn state
+    → IsInState state channel ended stream acts text unread → IsInState state channel now (stream ++ more) acts text (unread ++ more)
+stands_more states.Head channel ended now stream acts text unread more going s = (ap (λ (t : List ℕ). t ++ more) s.0, s.1, s.2)
+stands_more (states.Receive r) channel ended now stream acts text unread more going s =
     (record { at = body_more more s.0.at; route = s.0.route; received = s.0.received }, s.1)
-stands_more (states.Wait w) count ended now stream acts text unread more going s =
+stands_more (states.Wait w) channel ended now stream acts text unread more going s =
     let d = s.0.discarded in (
       record {
         last = s.0.last;
@@ -354,15 +355,15 @@ stands_more (states.Wait w) count ended now stream acts text unread more going s
       },
       s.1,
     )
-stands_more (states.Write w) count ended now stream acts text unread more going s =
+stands_more (states.Write w) channel ended now stream acts text unread more going s =
     let d = s.0.discarded in
     (record { last = s.0.last; discarded = record { at = body_more more d.at; route_is = d.route_is; discarded = λ later. d.discarded later }; answers = s.0.answers }, s.1)
-stands_more (states.Ended end) count ended now stream acts text unread more going s = absurd going
+stands_more (states.Ended end) channel ended now stream acts text unread more going s = absurd going
 
 -- so much is received, and perhaps the end
-pub holds_more : {count : ℕ} {state : ConnectionState} {h : History} (more : List ℕ) (ended : Bool) → IsNotOverIn state → IsConsistent count state h
-    → IsConsistent count state (record h { received = h.received ++ more; ended = ended; unread = h.unread ++ more })
-holds_more {count} {state} {h} more ended going x = record {
+pub holds_more : {channel : ServedChannel} {state : ConnectionState} {h : History} (more : List ℕ) (ended : Bool) → IsNotOverIn state → IsConsistent channel state h
+    → IsConsistent channel state (record h { received = h.received ++ more; ended = ended; unread = h.unread ++ more })
+holds_more {channel} {state} {h} more ended going x = record {
   over = x.over;
   rest = x.rest ++ more;
   serves = λ later. rw (append_assoc h.received more later, append_assoc x.rest more later) (x.serves (more ++ later));
@@ -370,13 +371,13 @@ holds_more {count} {state} {h} more ended going x = record {
   asked_is = x.asked_is;
   text = x.text;
   written = x.written;
-  stage_is = stands_more state count h.ended ended x.rest x.acts x.text h.unread more going x.stage_is;
+  stage_is = stands_more state channel h.ended ended x.rest x.acts x.text h.unread more going x.stage_is;
 }
 
 -- so much of what waits was handed out
-pub holds_sent : {count : ℕ} {state : ConnectionState} {h : History} (handed_out waits : List ℕ) → h.pending ≡ handed_out ++ waits → IsConsistent count state h
-    → IsConsistent count state (record h { sent = h.sent ++ handed_out; pending = waits })
-holds_sent {count} {state} {h} handed_out waits is x = record {
+pub holds_sent : {channel : ServedChannel} {state : ConnectionState} {h : History} (handed_out waits : List ℕ) → h.pending ≡ handed_out ++ waits → IsConsistent channel state h
+    → IsConsistent channel state (record h { sent = h.sent ++ handed_out; pending = waits })
+holds_sent {channel} {state} {h} handed_out waits is x = record {
   over = x.over;
   rest = x.rest;
   serves = x.serves;

@@ -4,6 +4,7 @@ mod PassLaws
 mod SessionLaws
 mod TraceLaws
 mod CallLaws
+mod MendLaws
 mod WithinLaws
 mod WaitLaws
 mod PlayerLaws

@@ -50,7 +50,7 @@ pub init_refused : (r : ℕ) (x y : Progress) (bytes : List ℕ) (init : InitDat
 init_refused r x y bytes init refusals.Memory is counts s = (x.acts, inl refl, inr (Submitted (Begin r init bytes) (Err refusals.Memory), tt, s))
 init_refused r x y bytes init q is counts s = ((λ e. cc, (init, is, s)), counts)
 
-found_init : (r : ℕ) (x y : Progress) (init : InitData) → FindsInitOrFails r x y (Ok tt) → y.init ≡ Some init → FindsInit r x init y.acts
+pub found_init : (r : ℕ) (x y : Progress) (init : InitData) → FindsInitOrFails r x y (Ok tt) → y.init ≡ Some init → FindsInit r x init y.acts
 found_init r x y init (counts, (i, is, finds)) there = let same : i ≡ init = cc (is, there) in subst (λ (j : InitData). FindsInit r x j y.acts) same finds
 
 pub unit_refused : (r : ℕ) (x z y : Progress) (bytes : List ℕ) (init : InitData) (f : Facts) (q : Refusal) → FindsInitOrFails r x z (Ok tt) → z.init ≡ Some init → IsUnit init bytes f

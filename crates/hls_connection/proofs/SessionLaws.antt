@@ -5,7 +5,7 @@ use Rattle.bytes.specs.Unread.{IsChunkOf}
 use Rattle.hls_io.specs.{Failures.FailuresRose, Writing.Writes}
 use Rattle.hls_http.{proofs.Callers.writes_whole, specs.declared.end.SessionEnd.SessionEnd}
 use Rattle.hls_core_laws.specs.{IsState.IsState}
-use Rattle.hls_api.specs.{Acts.{Act, AreActSteps, Knowledge}, OtherActors.OtherActors, ConnectionStates.{Stage, Over}}
+use Rattle.hls_api.specs.{Acts.{Act, AreActSteps, Knowledge}, OtherActors.OtherActors, ConnectionStates.{Stage, Over}, Routes.unmended_channel}
 use Rattle.hls_api.{specs.Sessions.{EndsSession, IsNotOver, Session}, proofs.Callers.acted_on}
 use Rattle.hls_connection.specs.{declared.machine.ConnectionNotes.ConnectionNotes, declared.state.ConnectionState.ConnectionState}
 use Rattle.hls_connection.specs.Traces.{Advances, ConnectionTrace, IsFresh, TraceIsIdleOrBlocked, TraceWaits, WantsMore, all_acts, history_of, idle_machine, trace_after_read, trace_after_send, trace_at}
@@ -29,13 +29,13 @@ chunk_first waiting chunk is = sym (take-append-drop (length chunk) waiting) ∙
 -- ---- it goes on
 
 -- from its beginning, where nothing came but what was held
-pub led_first : (between : OtherActors) (m : SessionMoment) (renditions : ℕ) (notes : ConnectionNotes) → IsFresh notes → m.at ≡ trace_after_read (trace_at (idle_machine renditions notes) []) m.at.past.unread false → IsState m.known.seen
+pub led_first : (between : OtherActors) (m : SessionMoment) (renditions : ℕ) (notes : ConnectionNotes) → IsFresh notes → m.at ≡ trace_after_read (trace_at (idle_machine (unmended_channel renditions) notes) []) m.at.past.unread false → IsState m.known.seen
     → renditions ≡ length m.known.seen.config.renditions → HasRun between m m
 led_first between m renditions notes fresh is valid count =
-    let nothing : all_acts (trace_at (idle_machine renditions notes) []) ≡ [] = rw fresh.acts in
+    let nothing : all_acts (trace_at (idle_machine (unmended_channel renditions) notes) []) ≡ [] = rw fresh.acts in
     subst (λ (c : ConnectionTrace). HasRun between m (record m { at = c })) (sym is) (record {
-      past_acts = (suited_new valid count nothing, count, ([], nothing, refl));
-      holds = holds_more m.at.past.unread false tt (idle_holds renditions notes fresh);
+      past_acts = (suited_new valid count nothing, ap unmended_channel count, ([], nothing, refl));
+      holds = holds_more m.at.past.unread false tt (idle_holds (unmended_channel renditions) notes fresh);
       read_log = λ input known. (input, known, rw fresh.reads refl, λ never. absurd (cc));
       written = λ out known. rw fresh.writes (known ∙ ap Some (sym (append-nil out)));
       quiet = (refl, refl);
@@ -43,7 +43,7 @@ led_first between m renditions notes fresh is valid count =
 
 pub led_advances : {between : OtherActors} {first m : SessionMoment} {b : Knowledge} {c : ConnectionTrace} → HasRun between first m → Advances between m.known m.at b c → HasRun between first (record m { at = c; known = b })
 led_advances {between} {first} {m} {b} {c} x y = record {
-  past_acts = (y.suits, y.renditions ∙ x.past_acts.1, acted_on between first.known m.known b [] (all_acts m.at) (all_acts c) x.past_acts.2 y.acted);
+  past_acts = (y.suits, y.channel ∙ x.past_acts.1, acted_on between first.known m.known b [] (all_acts m.at) (all_acts c) x.past_acts.2 y.acted);
   holds = y.holds x.holds;
   read_log = rw (y.quiet.received, y.quiet.ended) x.read_log;
   written = rw y.quiet.sent x.written;
@@ -128,10 +128,10 @@ ended_unwritten {first} {m} chunk contents writes is wrote rose x =
 -- by the connection itself, where all was sent; no reader or writer failed then
 pub ended_itself : {between : OtherActors} {first m : SessionMoment} (end : SessionEnd) → m.at.state ≡ states.Ended end → length m.at.past.pending ≡ 0 → HasRun between first m → HasRunToEnd between first m end
 ended_itself {between} {first} {m} end over empty x =
-    by end (subst (λ (state : ConnectionState). IsInState state m.at.renditions m.at.past.ended x.holds.rest x.holds.acts x.holds.text m.at.past.unread) over x.holds.stage_is)
+    by end (subst (λ (state : ConnectionState). IsInState state m.at.channel m.at.past.ended x.holds.rest x.holds.acts x.holds.text m.at.past.unread) over x.holds.stage_is)
     (ap stage_of over, nil_from_length m.at.past.pending empty)
   where
-    by : (end : SessionEnd) → IsInState (states.Ended end) m.at.renditions m.at.past.ended x.holds.rest x.holds.acts x.holds.text m.at.past.unread
+    by : (end : SessionEnd) → IsInState (states.Ended end) m.at.channel m.at.past.ended x.holds.rest x.holds.acts x.holds.text m.at.past.unread
         → (stage_of m.at.state ≡ Over end) × (m.at.past.pending ≡ []) → HasRunToEnd between first m end
     by ends.Closed here is = (session_of ends.Closed is x, x.quiet)
     by ends.Refused here is = (session_of ends.Refused is x, x.quiet)

@@ -1,5 +1,6 @@
 -- A connection by all that came of it, from one call to the next.
-use Rattle.std.proofs.{Common.{◌≡◌, ◌∙◌, ℕ, List, [], length, take, drop, append_assoc, refl, sym, subst}, lemmas.List.take-append-drop}
+use Rattle.hls_api.specs.declared.route.ServedChannel.{ServedChannel}
+use Rattle.std.proofs.{Common.{◌≡◌, ◌∙◌, ℕ, List, [], length, take, drop, append_assoc, refl, sym, subst, ap}, lemmas.List.take-append-drop}
 use Rattle.hls_core_laws.specs.{IsState.IsState}
 use Rattle.hls_api.specs.{Acts.{Act, ActsExtend, Knowledge}, OtherActors.OtherActors, ConnectionStates.History}
 use Rattle.hls_api.specs.ActLinks.{IsLaterKnowledge, AreLinked}
@@ -16,11 +17,11 @@ use Rattle.hls_connection.specs.declared.connection.ConnectionMemory.TheVariants
 
 -- ---- of which nothing came
 
-pub idle_history : (renditions : ℕ) (notes : ConnectionNotes) → IsFresh notes → history_of (trace_at (idle_machine renditions notes) []) ≡ new_history
-idle_history renditions notes fresh = rw (fresh.acts, fresh.reads, fresh.writes)
+pub idle_history : (channel : ServedChannel) (notes : ConnectionNotes) → IsFresh notes → history_of (trace_at (idle_machine channel notes) []) ≡ new_history
+idle_history channel notes fresh = rw (fresh.acts, fresh.reads, fresh.writes)
 
-pub idle_holds : (renditions : ℕ) (notes : ConnectionNotes) → IsFresh notes → IsConsistentTrace (trace_at (idle_machine renditions notes) [])
-idle_holds renditions notes fresh = rw (fresh.acts, fresh.reads, fresh.writes)
+pub idle_holds : (channel : ServedChannel) (notes : ConnectionNotes) → IsFresh notes → IsConsistentTrace (trace_at (idle_machine channel notes) [])
+idle_holds channel notes fresh = rw (fresh.acts, fresh.reads, fresh.writes)
     (record { over = []; rest = []; serves = λ later. refl; acts = []; asked_is = refl; text = []; written = refl; stage_is = (refl, refl, refl) })
 
 -- ---- what is read and sent
@@ -32,14 +33,14 @@ sends_holds c count h = holds_sent (take count c.past.pending) (drop count c.pas
 
 target_later : (a b : Knowledge) (target : BodyTarget) (taken : IngestState) → IsState b.seen → IsLaterKnowledge a b → SuitsTarget a target taken → SuitsTarget b target taken
 target_later a b (targets.Nothing room) taken valid later suits = tt
-target_later a b (targets.Encoder rendition reader) taken valid later suits = usable_after rendition a b taken.init valid later.follows suits
+target_later a b (targets.Encoder encoder reader) taken valid later suits = usable_after encoder.rendition a b taken.init valid later.follows suits
 
 suits_in : (a b : Knowledge) (state : ConnectionState) → IsState b.seen → IsLaterKnowledge a b → SuitsState a state → SuitsState b state
 suits_in a b (states.Receive r) valid later suits = (target_later a b r.target r.taken valid later suits.0, suits.1)
 suits_in a b state valid later suits = suits
 
-pub suited_valid : {known : Knowledge} {count : ℕ} {acts : List Act} {state : ConnectionState} → IsSuited known count acts state → IsState known.seen
-suited_valid {known} {count} {acts} x = (linked_follows acts x.first known x.valid x.linked).0
+pub suited_valid : {known : Knowledge} {channel : ServedChannel} {acts : List Act} {state : ConnectionState} → IsSuited known channel acts state → IsState known.seen
+suited_valid {known} {channel} {acts} x = (linked_follows acts x.first known x.valid x.linked).0
 
 pub suited_later : (a b : Knowledge) (c : ConnectionTrace) → IsSuitedTo a c → IsLaterKnowledge a b → IsSuitedTo b c
 suited_later a b c x later =
@@ -47,7 +48,7 @@ suited_later a b c x later =
     let valid = (linked_follows (all_acts c) x.first b x.valid linked).0 in
     record { first = x.first; valid = x.valid; count_is = x.count_is; linked = linked; body = suits_in a b c.state valid later x.body }
 
-pub suited_new : {known : Knowledge} {count : ℕ} {acts : List Act} → IsState known.seen → count ≡ length known.seen.config.renditions → acts ≡ [] → IsSuited known count acts states.Head
+pub suited_new : {known : Knowledge} {channel : ServedChannel} {acts : List Act} → IsState known.seen → channel.renditions ≡ length known.seen.config.renditions → acts ≡ [] → IsSuited known channel acts states.Head
 suited_new {known} valid count_is nothing = record {
   first = known;
   valid = valid;
@@ -64,12 +65,12 @@ advances_none m {known} {c} suits = record {
   holds = λ h. h;
   acted = acted_none m known (all_acts c);
   quiet = record { received = refl; ended = refl; sent = refl };
-  renditions = refl;
+  channel = refl;
 }
 
 -- what the keeper knows after these acts suits a state that suits it
-suited_after : (m : OtherActors) {a b : Knowledge} {count : ℕ} {before after : List Act} {old new : ConnectionState} → IsSuited a count before old → ActsExtend m a before b after → SuitsState b new → IsSuited b count after new
-suited_after m {a} {b} {count} {before} {after} x acted body = record {
+suited_after : (m : OtherActors) {a b : Knowledge} {channel : ServedChannel} {before after : List Act} {old new : ConnectionState} → IsSuited a channel before old → ActsExtend m a before b after → SuitsState b new → IsSuited b channel after new
+suited_after m {a} {b} {channel} {before} {after} x acted body = record {
   first = x.first;
   valid = x.valid;
   count_is = x.count_is;
@@ -79,21 +80,21 @@ suited_after m {a} {b} {count} {before} {after} x acted body = record {
 
 -- one step: some of what is unread was taken, and the step leads on
 pub advances_step : (m : OtherActors) {a b : Knowledge} (c : ConnectionTrace) (step : Transition) (unread : List ℕ) → IsSuitedTo a c → c.past.pending ≡ []
-    → StepStaysConsistent c.renditions c.past.ended c.state c.past.unread step unread → ActsExtend m a (current_acts c.state) b (acts_of_step step) → SuitsState b step.state
+    → StepStaysConsistent c.channel c.past.ended c.state c.past.unread step unread → ActsExtend m a (current_acts c.state) b (acts_of_step step) → SuitsState b step.state
     → Advances m a c b (trace_after_step (record c { past = record c.past { unread = unread } }) step)
 advances_step m {a} {b} c step unread suits empty goes act_steps body =
     let acted = acted_behind m c.past.acts a b (current_acts c.state) (append_assoc c.past.acts step.acts (current_acts step.state)) act_steps in
     record {
       suits = suited_after m suits acted body;
-      holds = λ h. goes c.past.received c.past.sent c.past.acts (subst (λ (t : List ℕ). IsConsistent c.renditions c.state (record c.past { pending = t })) empty h);
+      holds = λ h. goes c.past.received c.past.sent c.past.acts (subst (λ (t : List ℕ). IsConsistent c.channel c.state (record c.past { pending = t })) empty h);
       acted = acted;
       quiet = record { received = refl; ended = refl; sent = refl };
-      renditions = refl;
+      channel = refl;
     }
 
 -- no step: more of a body was received
-pub receives : {count : ℕ} {old new : ReceivingBody} {h : History} (unread : List ℕ) → ((stream first : List ℕ) → IsReceiving count stream first old h.unread → IsReceiving count stream first new unread)
-    → IsConsistent count (states.Receive old) h → IsConsistent count (states.Receive new) (record h { unread = unread })
+pub receives : {channel : ServedChannel} {old new : ReceivingBody} {h : History} (unread : List ℕ) → ((stream first : List ℕ) → IsReceiving channel stream first old h.unread → IsReceiving channel stream first new unread)
+    → IsConsistent channel (states.Receive old) h → IsConsistent channel (states.Receive new) (record h { unread = unread })
 receives {h} unread goes x = record {
   over = x.over;
   rest = x.rest;
@@ -106,7 +107,7 @@ receives {h} unread goes x = record {
 }
 
 pub advances_within : (m : OtherActors) {a b : Knowledge} (c : ConnectionTrace) (state : ConnectionState) (unread : List ℕ) → IsSuitedTo a c
-    → (IsConsistent c.renditions c.state c.past → IsConsistent c.renditions state (record c.past { unread = unread })) → ActsExtend m a (current_acts c.state) b (current_acts state) → SuitsState b state
+    → (IsConsistent c.channel c.state c.past → IsConsistent c.channel state (record c.past { unread = unread })) → ActsExtend m a (current_acts c.state) b (current_acts state) → SuitsState b state
     → Advances m a c b (record c { state = state; past = record c.past { unread = unread } })
 advances_within m {a} {b} c state unread suits goes act_steps body =
     let acted = acted_behind m c.past.acts a b (current_acts c.state) refl act_steps in
@@ -115,7 +116,7 @@ advances_within m {a} {b} c state unread suits goes act_steps body =
       holds = goes;
       acted = acted;
       quiet = record { received = refl; ended = refl; sent = refl };
-      renditions = refl;
+      channel = refl;
     }
 
 pub advances_on : (m : OtherActors) {a b c : Knowledge} {old here new : ConnectionTrace} → Advances m a old b here → Advances m b here c new → Advances m a old c new
@@ -124,19 +125,23 @@ advances_on m {a} {b} {c} {old} {here} {new} x y = record {
   holds = λ h. y.holds (x.holds h);
   acted = acted_on m a b c (all_acts old) (all_acts here) (all_acts new) x.acted y.acted;
   quiet = record { received = y.quiet.received ∙ x.quiet.received; ended = y.quiet.ended ∙ x.quiet.ended; sent = y.quiet.sent ∙ x.quiet.sent };
-  renditions = y.renditions ∙ x.renditions;
+  channel = y.channel ∙ x.channel;
 }
 
 -- ---- with or without memory of its own
 
-pub nothing_history : (memory : ConnectionMemory) (count : ℕ) → HasNothing memory count → history_of (trace_of memory) ≡ new_history
-nothing_history (places.Idle renditions notes) count x = idle_history renditions notes x.1
-nothing_history (places.Active b) count x = absurd x
+pub nothing_history : (memory : ConnectionMemory) (channel : ServedChannel) → HasNothing memory channel → history_of (trace_of memory) ≡ new_history
+nothing_history (places.Idle own notes) channel x = idle_history own notes x.1
+nothing_history (places.Active b) channel x = absurd x
 
-pub nothing_holds : (memory : ConnectionMemory) (count : ℕ) → HasNothing memory count → IsConsistentTrace (trace_of memory)
-nothing_holds (places.Idle renditions notes) count x = idle_holds renditions notes x.1
-nothing_holds (places.Active b) count x = absurd x
+pub nothing_channel : (memory : ConnectionMemory) (channel : ServedChannel) → HasNothing memory channel → (trace_of memory).channel ≡ channel
+nothing_channel (places.Idle own notes) channel x = x.0
+nothing_channel (places.Active b) channel x = absurd x
 
-pub nothing_suits : {known : Knowledge} (memory : ConnectionMemory) (count : ℕ) → HasNothing memory count → IsState known.seen → count ≡ length known.seen.config.renditions → IsSuitedTo known (trace_of memory)
-nothing_suits (places.Idle renditions notes) count x valid is = suited_new valid (x.0 ∙ is) (rw x.1.acts)
-nothing_suits (places.Active b) count x valid is = absurd x
+pub nothing_holds : (memory : ConnectionMemory) (channel : ServedChannel) → HasNothing memory channel → IsConsistentTrace (trace_of memory)
+nothing_holds (places.Idle own notes) channel x = idle_holds own notes x.1
+nothing_holds (places.Active b) channel x = absurd x
+
+pub nothing_suits : {known : Knowledge} (memory : ConnectionMemory) (channel : ServedChannel) → HasNothing memory channel → IsState known.seen → channel.renditions ≡ length known.seen.config.renditions → IsSuitedTo known (trace_of memory)
+nothing_suits (places.Idle own notes) channel x valid is = suited_new valid (ap (λ (c : ServedChannel). c.renditions) x.0 ∙ is) (rw x.1.acts)
+nothing_suits (places.Active b) channel x valid is = absurd x

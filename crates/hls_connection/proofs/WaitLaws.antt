@@ -1,4 +1,5 @@
 -- Responses that wait for a job: what is due of the job as it was found.
+use Rattle.hls_api.specs.declared.route.ServedChannel.{ServedChannel}
 use Rattle.std.proofs.Common.{◌≡◌, ◌≢◌, ℕ, ◌<◌, ◌≤◌, ◌*◌, ◌+◌, ◌-◌, ◌^◌, ◌&&◌, Bool, true, false, cond, List, [], length, Option, Some, None, IsTrue, IsFalse, Result, Ok, Err, IfOk, inl, inr, refl, sym, ap, subst, arith}
 use Rattle.std.{specs.{Prelude.min, Option.is_some}, proofs.Math.Nat.{min-le_left, min-le_right}}
 use Rattle.httparse.specs.Grammar.{RequestHead}
@@ -22,20 +23,20 @@ not_removed id methods.Head is = refl
 not_removed id method is = absurd (cc is)
 
 -- what is due for the answer that was made, or for want of memory
-shown_due : {E : Type 0} (count : ℕ) (h : RequestHead) (id : ℕ) (found : Result Job JobFault) (response : Result ResponseData E) (due : DueResponse)
-    → IfOk response (IsJobResponse found (shown_if (params_of count h) (routes.Job id) (allows (routes.Job id) (params_of count h).method)))
-    → IsDueFor (continue_prefix h (request_of count h).action) response (sends_close h false) (to_head h) due → IsJobDue count h id found due
-shown_due count h id found (Ok a) due shows is = inl (a, shows, is)
-shown_due count h id found (Err e) due shows is = inr is
+shown_due : {E : Type 0} (channel : ServedChannel) (h : RequestHead) (id : ℕ) (found : Result Job JobFault) (response : Result ResponseData E) (due : DueResponse)
+    → IfOk response (IsJobResponse found (shown_if (params_of channel h) (routes.Job id) (allows (routes.Job id) (params_of channel h).method)))
+    → IsDueFor (continue_prefix h (request_of channel h).action) response (sends_close h false) (to_head h) due → IsJobDue channel h id found due
+shown_due channel h id found (Ok a) due shows is = inl (a, shows, is)
+shown_due channel h id found (Err e) due shows is = inr is
 
 -- the response shows the job as it was found
 pub answered : {E : Type 0} (w : WaitingResponse) (found : Result Job JobFault) (response : Result ResponseData E) (step : Transition)
     → ForContext w.context (λ h q. IfOk response (IsJobResponse found (shown_if q (routes.Job w.id) (allows (routes.Job w.id) q.method))))
-    → ((count : ℕ) (h : RequestHead) (first : List ℕ) → IsContextOf count h w.context → RespondsWith (IsDueFor first response (sends_close h false) (to_head h)) first w.acts step)
+    → ((channel : ServedChannel) (h : RequestHead) (first : List ℕ) → IsContextOf channel h w.context → RespondsWith (IsDueFor first response (sends_close h false) (to_head h)) first w.acts step)
     → IsAnswered w found step.output
-answered w found response step shows responds = λ count h context.
-    let r = responds count h (continue_prefix h (request_of count h).action) context in
-    (r.due, shown_due count h w.id found response r.due (shows count h context) r.is, r.text_is)
+answered w found response step shows responds = λ channel h context.
+    let r = responds channel h (continue_prefix h (request_of channel h).action) context in
+    (r.due, shown_due channel h w.id found response r.due (shows channel h context) r.is, r.text_is)
 
 -- .. and is one to its request
 pub waiting_made : {E : Type 0} (q : RequestParams) (id : ℕ) (found : Result Job JobFault) (acts : List Act) (response : Result ResponseData E) → may_wait q.method ≡ true → acts ≡ []

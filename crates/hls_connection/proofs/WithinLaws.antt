@@ -1,4 +1,6 @@
 -- A body that is read, step by step.
+use Rattle.hls_api.specs.declared.route.IngestTarget.{IngestTarget}
+use Rattle.hls_api.specs.declared.route.ServedChannel.{ServedChannel}
 use Rattle.std.proofs.Common.{◌≡◌, ◌∙◌, ◌⊎◌, ℕ, zero, suc, ◌+◌, ◌-◌, ◌<◌, ◌≤◌, false, not, nat_eq, inl, inr, List, [], ◌++◌, length, take, drop, Some, Result, Ok, Err, refl, sym, ap, subst, arith, append-nil, length-append}
 use Rattle.std.proofs.lemmas.{Bool.{eq-eqb, ne_eqb}, List.{length-drop, length-take-le}}
 use Rattle.hls_core.specs.{declared.feed_fault.StreamFault.StreamFault, Streams.{EndsStream, Reached}}
@@ -7,7 +9,7 @@ use Rattle.hls_http.proofs.Callers.{Leaves, broken_bodies_stay, run_one, runs_jo
 use Rattle.hls_http.specs.{declared.framing.BodyFraming.TheVariants.{Length, Size, Data, Trailers}, ReadBodies.{IsLastAlone, IsToken}}
 use Rattle.hls_http.specs.{declared.request_action.RequestAction.TheVariants.Ingest, Actions.announced_len}
 use Rattle.hls_http.specs.Bodies.{EndsData, IsBroken, ReadsLine, Steps, TakesData, framing_after_size}
-use Rattle.hls_api.specs.{declared.ingest.IngestStop.IngestStop, Exchanges.IsPastLimit, Ingest.{HandlesPart, no_progress, ends_at}}
+use Rattle.hls_api.specs.{declared.ingest.IngestStop.IngestStop, Exchanges.IsPastLimit, Ingest.{IngestsPart, no_progress, ends_at}}
 use Rattle.hls_connection.specs.{declared.request_context.RequestContext.RequestContext, declared.receive.BodyTarget.BodyTarget, declared.receive.ReceivingBody.ReceivingBody}
 use Rattle.hls_connection.specs.{declared.ingest_sink.IngestState.IngestState, IngestStates.progress_of}
 use Rattle.hls_connection.specs.WithinBody.{DiscardsSo, EndsTarget, HasBody, HasReceived, HasRoom, IsIngested, IsReceived, IsReceiving, TakesPiece, action_into, ended_as, target_after_frame}
@@ -24,8 +26,8 @@ use Rattle.hls_connection.specs.declared.receive.BodyTarget.TheVariants as targe
 pub fewer : (len : ℕ) (unread : List ℕ) → 0 < len → len ≤ length unread → length (drop len unread) < length unread
 fewer len unread some within = omega (arith, some, within, length-drop len unread)
 
-abbrev pub body_goes : {count : ℕ} {stream first : List ℕ} {context : RequestContext} {action : BodyFraming → RequestAction} {b : BodyFraming} {unread : List ℕ} → HasBody count stream first context action b unread
-    → (next : BodyFraming) (piece rest : List ℕ) → Steps b unread piece next rest → HasBody count stream first context action next rest
+abbrev pub body_goes : {channel : ServedChannel} {stream first : List ℕ} {context : RequestContext} {action : BodyFraming → RequestAction} {b : BodyFraming} {unread : List ℕ} → HasBody channel stream first context action b unread
+    → (next : BodyFraming) (piece rest : List ℕ) → Steps b unread piece next rest → HasBody channel stream first context action next rest
 body_goes {b} {unread} at next piece rest s = record {
   head = at.head;
   following = at.following;
@@ -112,35 +114,35 @@ ends_so Trailers middle last before after size l later alone following within = 
 
 -- ---- a step of a body that is received
 
-module _ {count : ℕ} {stream first : List ℕ} {r : ReceivingBody} {unread : List ℕ} (x : IsReceiving count stream first r unread) where
+module _ {channel : ServedChannel} {stream first : List ℕ} {r : ReceivingBody} {unread : List ℕ} (x : IsReceiving channel stream first r unread) where
   pub receive_piece : (target : BodyTarget) (taken : IngestState) (next : BodyFraming) (len : ℕ) → IsToken r.body unread (moves.Piece len next) → TakesPiece r.target r.taken (take len unread) target taken (Ok tt)
-      → IsReceiving count stream first (record r { body = next; target = target; taken = taken }) (drop len unread)
+      → IsReceiving channel stream first (record r { body = next; target = target; taken = taken }) (drop len unread)
   receive_piece target taken next len found takes = by r.target x.at x.received takes
     where
-      by : (old : BodyTarget) (at : HasBody count stream first r.context (action_into old) r.body unread) → HasReceived old r.route r.taken at.content r.body → TakesPiece old r.taken (take len unread) target taken (Ok tt)
-          → IsReceiving count stream first (record r { body = next; target = target; taken = taken }) (drop len unread)
+      by : (old : BodyTarget) (at : HasBody channel stream first r.context (action_into old) r.body unread) → HasReceived old r.route r.taken at.content r.body → TakesPiece old r.taken (take len unread) target taken (Ok tt)
+          → IsReceiving channel stream first (record r { body = next; target = target; taken = taken }) (drop len unread)
       by (targets.Nothing room) at (nothing, all) (same, kept, done) = rw (same, kept) (record {
         at = body_goes at next (take len unread) (drop len unread) found.2;
         route = x.route;
         received = (nothing, piece_counted room at.content r.body unread all next len found);
       })
-      by (targets.Encoder rendition reader) at (is, reached) (later, same, (Ok done, told, feeds)) = rw same (record {
+      by (targets.Encoder encoder reader) at (is, reached) (later, same, (Ok done, told, feeds)) = rw same (record {
         at = body_goes at next (take len unread) (drop len unread) found.2;
         route = x.route;
         received = (is, feeds no_progress at.content reached);
       })
-      by (targets.Encoder rendition reader) at (is, reached) (later, same, (Err fault, told, feeds)) = absurd (cc told)
+      by (targets.Encoder encoder reader) at (is, reached) (later, same, (Err fault, told, feeds)) = absurd (cc told)
 
   -- .. that isn't taken in whole
   pub receive_untaken : (target : BodyTarget) (taken : IngestState) (next : BodyFraming) (len : ℕ) (stop : IngestStop) → IsToken r.body unread (moves.Piece len next) → length unread ≤ 65536
-      → TakesPiece r.target r.taken (take len unread) target taken (Err stop) → IsReceived count stream first (record r { body = next; target = target; taken = taken }) target (drop len unread) (Err stop)
+      → TakesPiece r.target r.taken (take len unread) target taken (Err stop) → IsReceived channel stream first (record r { body = next; target = target; taken = taken }) target (drop len unread) (Err stop)
   receive_untaken target taken next len stop found few takes = by r.target x.at x.received takes
     where
-      by : (old : BodyTarget) (at : HasBody count stream first r.context (action_into old) r.body unread) → HasReceived old r.route r.taken at.content r.body → TakesPiece old r.taken (take len unread) target taken (Err stop)
-          → IsReceived count stream first (record r { body = next; target = target; taken = taken }) target (drop len unread) (Err stop)
+      by : (old : BodyTarget) (at : HasBody channel stream first r.context (action_into old) r.body unread) → HasReceived old r.route r.taken at.content r.body → TakesPiece old r.taken (take len unread) target taken (Err stop)
+          → IsReceived channel stream first (record r { body = next; target = target; taken = taken }) target (drop len unread) (Err stop)
       by (targets.Nothing room) at received (same, kept, done) = absurd (cc done)
-      by (targets.Encoder rendition reader) at (is, reached) (later, same, (Ok done, told, feeds)) = absurd (cc told)
-      by (targets.Encoder rendition reader) at (is, reached) (later, same, (Err (feed_faults.Refused fault), told, feeds)) =
+      by (targets.Encoder encoder reader) at (is, reached) (later, same, (Ok done, told, feeds)) = absurd (cc told)
+      by (targets.Encoder encoder reader) at (is, reached) (later, same, (Err (feed_faults.Refused fault), told, feeds)) =
           let end = body_goes at next (take len unread) (drop len unread) found.2 in
           let refused = feeds no_progress at.content reached in
           let shown : refused.size ≤ length end.content = elim refused.refuses [ inl part ↦ part.shows.within | inr box ↦ box.shows.within ] in
@@ -156,7 +158,7 @@ module _ {count : ℕ} {stream first : List ℕ} {r : ReceivingBody} {unread : L
             );
             replied = λ end is. cc;
           })
-      by (targets.Encoder rendition reader) at (is, reached) (later, same, (Err feed_faults.Memory, told, feeds)) = rw (same, told) (record {
+      by (targets.Encoder encoder reader) at (is, reached) (later, same, (Err feed_faults.Memory, told, feeds)) = rw (same, told) (record {
         at = body_goes at next (take len unread) (drop len unread) found.2;
         route_is = x.route ∙ ap Some is;
         handles = λ later. feeds no_progress at.content reached;
@@ -164,58 +166,58 @@ module _ {count : ℕ} {stream first : List ℕ} {r : ReceivingBody} {unread : L
       })
 
   pub receive_frame : (next : BodyFraming) (rest : List ℕ) → Steps r.body unread [] next rest → HasRoom r.target (announced_len next)
-      → IsReceiving count stream first (record r { body = next; target = target_after_frame r.target (announced_len next) }) rest
+      → IsReceiving channel stream first (record r { body = next; target = target_after_frame r.target (announced_len next) }) rest
   receive_frame next rest s fits = by r.target x.at x.received fits
     where
-      by : (old : BodyTarget) (at : HasBody count stream first r.context (action_into old) r.body unread) → HasReceived old r.route r.taken at.content r.body → HasRoom old (announced_len next)
-          → IsReceiving count stream first (record r { body = next; target = target_after_frame old (announced_len next) }) rest
+      by : (old : BodyTarget) (at : HasBody channel stream first r.context (action_into old) r.body unread) → HasReceived old r.route r.taken at.content r.body → HasRoom old (announced_len next)
+          → IsReceiving channel stream first (record r { body = next; target = target_after_frame old (announced_len next) }) rest
       by (targets.Nothing room) at (nothing, all) fits = record { at = body_goes at next [] rest s; route = x.route; received = (nothing, frame_counted room at.content r.body unread all next rest s fits) }
-      by (targets.Encoder rendition reader) at (is, reached) fits = record {
+      by (targets.Encoder encoder reader) at (is, reached) fits = record {
         at = body_goes at next [] rest s;
         route = x.route;
-        received = (is, subst (λ (c : List ℕ). Reached (HandlesPart rendition) no_progress c reader (progress_of r.taken)) (sym (append-nil at.content)) reached);
+        received = (is, subst (λ (c : List ℕ). Reached (IngestsPart encoder) no_progress c reader (progress_of r.taken)) (sym (append-nil at.content)) reached);
       }
 
-  pub receive_too_large : (next : BodyFraming) (rest : List ℕ) → Steps r.body unread [] next rest → (HasRoom r.target (announced_len next) → ⊥) → DiscardsSo count stream first r unread (Err discards.TooLarge)
+  pub receive_too_large : (next : BodyFraming) (rest : List ℕ) → Steps r.body unread [] next rest → (HasRoom r.target (announced_len next) → ⊥) → DiscardsSo channel stream first r unread (Err discards.TooLarge)
   receive_too_large next rest s large = by r.target x.at x.received large
     where
-      by : (old : BodyTarget) (at : HasBody count stream first r.context (action_into old) r.body unread) → HasReceived old r.route r.taken at.content r.body → (HasRoom old (announced_len next) → ⊥)
-          → DiscardsSo count stream first r unread (Err discards.TooLarge)
+      by : (old : BodyTarget) (at : HasBody channel stream first r.context (action_into old) r.body unread) → HasReceived old r.route r.taken at.content r.body → (HasRoom old (announced_len next) → ⊥)
+          → DiscardsSo channel stream first r unread (Err discards.TooLarge)
       by (targets.Nothing room) at (nothing, all) large =
           (nothing, record { at = at; route_is = x.route; discarded = past_limit room at.content r.body unread all next rest s (omega (arith, large)) })
-      by (targets.Encoder rendition reader) at received large = absurd (large tt)
+      by (targets.Encoder encoder reader) at received large = absurd (large tt)
 
-  pub receive_over : (result : Result (Unit {0}) IngestStop) → r.body ≡ Length 0 → EndsTarget r.target result → IsReceived count stream first r r.target unread result
+  pub receive_over : (result : Result (Unit {0}) IngestStop) → r.body ≡ Length 0 → EndsTarget r.target result → IsReceived channel stream first r r.target unread result
   receive_over result over ends = by r.target x.at x.received ends
     where
-      ended : (rendition : ℕ) (reader : List ℕ) (at : HasBody count stream first r.context Ingest r.body unread) → HasReceived (targets.Encoder rendition reader) r.route r.taken at.content r.body
-          → (of : Result (Unit {0}) StreamFault) → EndsStream at.content of → IsIngested count stream first r rendition unread (ended_as of)
-      ended rendition reader at (is, reached) (Ok done) so = record {
+      ended : (encoder : IngestTarget) (reader : List ℕ) (at : HasBody channel stream first r.context Ingest r.body unread) → HasReceived (targets.Encoder encoder reader) r.route r.taken at.content r.body
+          → (of : Result (Unit {0}) StreamFault) → EndsStream at.content of → IsIngested channel stream first r encoder unread (ended_as of)
+      ended encoder reader at (is, reached) (Ok done) so = record {
         at = at;
         route_is = x.route ∙ ap Some is;
         handles = λ later. (record { over = over; taken = reached.taken; ends = so }, ap (λ b. not (is_over b)) over);
         replied = λ end is. cc;
       }
-      ended rendition reader at (is, reached) (Err fault) so = record {
+      ended encoder reader at (is, reached) (Err fault) so = record {
         at = at;
         route_is = x.route ∙ ap Some is;
         handles = λ later. inl (record { over = over; taken = reached.taken; ends = so }, ap (λ b. not (is_over b)) over);
         replied = λ end is. cc;
       }
 
-      by : (old : BodyTarget) (at : HasBody count stream first r.context (action_into old) r.body unread) → HasReceived old r.route r.taken at.content r.body → EndsTarget old result → IsReceived count stream first r old unread result
+      by : (old : BodyTarget) (at : HasBody channel stream first r.context (action_into old) r.body unread) → HasReceived old r.route r.taken at.content r.body → EndsTarget old result → IsReceived channel stream first r old unread result
       by (targets.Nothing room) at (nothing, all) is = rw is (nothing, record { at = at; route_is = x.route; discarded = λ later. (over, omega (arith, all)) })
-      by (targets.Encoder rendition reader) at received (of, is, ends) =
-          rw is (ended rendition reader at received of (ends at.content received.1.taken.no_fault received.1.left))
+      by (targets.Encoder encoder reader) at received (of, is, ends) =
+          rw is (ended encoder reader at received of (ends at.content received.1.taken.no_fault received.1.left))
 
-  pub receive_broken : IsBroken r.body unread → IsReceived count stream first r r.target unread (Err (ingest_stops.Stopped bodies.BadFraming))
+  pub receive_broken : IsBroken r.body unread → IsReceived channel stream first r r.target unread (Err (ingest_stops.Stopped bodies.BadFraming))
   receive_broken broken = by r.target x.at x.received
     where
-      by : (old : BodyTarget) (at : HasBody count stream first r.context (action_into old) r.body unread) → HasReceived old r.route r.taken at.content r.body
-          → IsReceived count stream first r old unread (Err (ingest_stops.Stopped bodies.BadFraming))
+      by : (old : BodyTarget) (at : HasBody channel stream first r.context (action_into old) r.body unread) → HasReceived old r.route r.taken at.content r.body
+          → IsReceived channel stream first r old unread (Err (ingest_stops.Stopped bodies.BadFraming))
       by (targets.Nothing room) at (nothing, all) =
           (nothing, record { at = at; route_is = x.route; discarded = λ later. (omega (arith, all), broken_bodies_stay r.body unread later broken) })
-      by (targets.Encoder rendition reader) at (is, reached) = record {
+      by (targets.Encoder encoder reader) at (is, reached) = record {
         at = at;
         route_is = x.route ∙ ap Some is;
         handles = λ later. (reached.taken, broken_bodies_stay r.body unread later broken);

@@ -1,4 +1,5 @@
 -- What contracts say of a connection: its whole history, and what its keeper has to know.
+use Rattle.hls_api.specs.declared.route.ServedChannel.{ServedChannel}
 use Rattle.std.specs.Prelude.{◌≡◌, ◌<◌, ℕ, List, length, Option}
 use Rattle.hls_event_loop.specs.declared.activity.ConnectionStage.{ConnectionStage}
 use Rattle.hls_api.specs.{Acts.Knowledge, ConnectionStates.{History, Stage}, ActLinks.IsLaterKnowledge}
@@ -18,9 +19,9 @@ state_of v = (trace_of v.memory).state
 abbrev pub stage : Connection → Stage
 stage v = stage_of (state_of v)
 
--- how many renditions the channel has
-abbrev pub renditions_of : Connection → ℕ
-renditions_of v = (trace_of v.memory).renditions
+-- the channel that it serves
+abbrev pub channel_of : Connection → ServedChannel
+channel_of v = (trace_of v.memory).channel
 
 -- more is to be read: nothing waits, all is not over, and there is room
 abbrev pub WantsRead : Connection → Type 0

@@ -7,6 +7,7 @@ pub mod States
 pub mod Moments
 pub mod ActNotes
 pub mod IngestStates
+pub mod MendingStates
 pub mod Traces
 pub mod Events
 pub mod Connections

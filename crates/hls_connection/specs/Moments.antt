@@ -7,6 +7,7 @@ use Rattle.hls_http.specs.BufferedReader.{unread_of, read_failures, reader_of}
 use Rattle.hls_api.specs.{Acts.ActsExtend, Acts.Knowledge, OtherActors.OtherActors}
 use Rattle.hls_connection.specs.{declared.machine.ConnectionMachine.ConnectionMachine, FailureCounts.CountsSession}
 use Rattle.hls_connection.specs.Traces.{ConnectionTrace, IsConsistentTrace, IsSuitedTo, all_acts, trace_at}
+use Rattle.hls_api.specs.Routes.{unmended_channel}
 use Rattle.hls_api.specs.Sessions as spec
 
 -- its connection, what is still to come of its reader and what its writer holds, where they are known, how many of their calls failed,
@@ -31,7 +32,7 @@ moment remaining contents machine session known = record {
 
 -- all that was asked since then links what the keeper knew to what it knows, and it suits
 abbrev pub HasActed : OtherActors → Knowledge → Knowledge → ConnectionTrace → Type 0
-HasActed between first now c = IsSuitedTo now c × (c.renditions ≡ length first.seen.config.renditions) × ActsExtend between first [] now (all_acts c)
+HasActed between first now c = IsSuitedTo now c × (c.channel ≡ unmended_channel (length first.seen.config.renditions)) × ActsExtend between first [] now (all_acts c)
 
 -- where these were known, what was held at first and was still to come was received but for what is left, its end only where nothing is;
 -- what was handed out is written; and no call failed

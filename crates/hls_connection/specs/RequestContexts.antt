@@ -1,5 +1,6 @@
 -- For the proofs of this crate; no public clause cites it.
 -- A request in the middle of its answering: what is kept of its head, what is made, and what is due.
+use Rattle.hls_api.specs.declared.route.ServedChannel.{ServedChannel}
 use Rattle.std.specs.Prelude.{◌≡◌, ℕ, ◌⊎◌, Bool, true, false, List, ◌++◌, Option, Some, IfOk, Result, Ok, Err}
 use Rattle.httparse.specs.Grammar.{RequestHead}
 use Rattle.hls_http.specs.{ResponseText.{is_success, out_of_memory_response}, ReadHeads.IsHead}
@@ -11,16 +12,16 @@ use Rattle.hls_api.specs.declared.route.Route.TheVariants as routes
 
 -- ---- what was read
 
--- in a channel of this number of renditions this is kept of the head h
-pub record IsContextOf (count : ℕ) (h : RequestHead) (context : RequestContext) : Type 0 where
+-- in this channel this is kept of the head h
+pub record IsContextOf (channel : ServedChannel) (h : RequestHead) (context : RequestContext) : Type 0 where
   pub text : List ℕ
   pub head : IsHead h context.head text
-  pub route : context.route ≡ route_of count (path_of h.target)
+  pub route : context.route ≡ route_of channel (path_of h.target)
   pub query : context.route ≡ Some routes.CatchUp → IfOk context.query (λ query. query ≡ query_in (query_of h.target))
 
--- of whatever head in a channel of however many renditions this was kept
+-- of whatever head in whatever channel this was kept
 abbrev pub ForContext : RequestContext → (RequestHead → RequestParams → Type 0) → Type 0
-ForContext context Is = (count : ℕ) (h : RequestHead) → IsContextOf count h context → Is h (params_of count h)
+ForContext context Is = (channel : ServedChannel) (h : RequestHead) → IsContextOf channel h context → Is h (params_of channel h)
 
 -- .. where it is for this route
 abbrev pub ForContextAt : Route → RequestContext → (RequestHead → RequestParams → Type 0) → Type 0

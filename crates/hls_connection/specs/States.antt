@@ -1,5 +1,6 @@
 -- For the proofs of this crate; no public clause cites it.
 -- The states of a connection, and what a step from one to the next comes to.
+use Rattle.hls_api.specs.declared.route.ServedChannel.{ServedChannel}
 use Rattle.std.specs.Prelude.{◌≡◌, ◌⊎◌, ℕ, ◌+◌, ◌*◌, ◌<◌, ◌≤◌, Bool, true, false, List, [], ◌++◌, length, Option, None, Err, IsTrue, IsFalse}
 use Rattle.hls_core_laws.specs.{IsState.IsState}
 use Rattle.hls_http.specs.{declared.framing.BodyFraming.BodyFraming, Bodies.IsOpen, Heads.IsUnfinished}
@@ -29,23 +30,23 @@ stage_of (states.Write w) = Within
 stage_of (states.Ended end) = Over end
 
 -- what the state says of the stream after the requests that were answered
-abbrev pub IsInState : ConnectionState → ℕ → Bool → List ℕ → List Act → List ℕ → List ℕ → Type 0
-IsInState states.Head count ended stream acts text unread = IsBetween stream acts text unread
-IsInState (states.Receive r) count ended stream acts text unread = IsReceiving count stream text r unread × (acts ≡ [])
-IsInState (states.Wait w) count ended stream acts text unread = IsWaiting count stream text w unread × (acts ≡ [])
-IsInState (states.Write w) count ended stream acts text unread = IsWriting count stream text w unread × (acts ≡ [])
-IsInState (states.Ended end) count ended stream acts text unread = IsAtStage (Over end) count ended stream acts text unread
+abbrev pub IsInState : ConnectionState → ServedChannel → Bool → List ℕ → List Act → List ℕ → List ℕ → Type 0
+IsInState states.Head channel ended stream acts text unread = IsBetween stream acts text unread
+IsInState (states.Receive r) channel ended stream acts text unread = IsReceiving channel stream text r unread × (acts ≡ [])
+IsInState (states.Wait w) channel ended stream acts text unread = IsWaiting channel stream text w unread × (acts ≡ [])
+IsInState (states.Write w) channel ended stream acts text unread = IsWriting channel stream text w unread × (acts ≡ [])
+IsInState (states.Ended end) channel ended stream acts text unread = IsAtStage (Over end) channel ended stream acts text unread
 
 -- it holds of a history whose acts are those for the requests that are over
-pub record IsConsistent (count : ℕ) (state : ConnectionState) (h : History) : Type 0 where
+pub record IsConsistent (channel : ServedChannel) (state : ConnectionState) (h : History) : Type 0 where
   pub over : List Exchange
   pub rest : List ℕ
-  pub serves : (later : List ℕ) → Serves count (h.received ++ later) over (rest ++ later)
+  pub serves : (later : List ℕ) → Serves channel (h.received ++ later) over (rest ++ later)
   pub acts : List Act
   pub asked_is : h.acts ≡ acts_of over ++ acts
   pub text : List ℕ
   pub written : output h ≡ text_of over ++ text
-  pub stage_is : IsInState state count h.ended rest acts text h.unread
+  pub stage_is : IsInState state channel h.ended rest acts text h.unread
 
 -- the keeper suits the state: it has seen the init section under which a body is read
 abbrev pub SuitsState : Knowledge → ConnectionState → Type 0
@@ -150,23 +151,23 @@ pub record SendsResponse (acts : List Act) (step : Transition) : Type 0 where
   pub step_is : step ≡ respond_step step.output closing success acts
 
 -- .. to the first request of a stream, whatever follows
-abbrev pub RespondsTo : ℕ → List ℕ → List ℕ → List Act → List ℕ → Transition → Type 0
-RespondsTo count stream first acts unread step =
-    RespondsWith (λ due. (later : List ℕ) → IsExchange count (stream ++ later) acts due (unread ++ later)) first acts step
+abbrev pub RespondsTo : ServedChannel → List ℕ → List ℕ → List Act → List ℕ → Transition → Type 0
+RespondsTo channel stream first acts unread step =
+    RespondsWith (λ due. (later : List ℕ) → IsExchange channel (stream ++ later) acts due (unread ++ later)) first acts step
 
 -- a request whose body was discarded is responded to, or its response is made in parts first, or waits
-abbrev pub IsHandled : ℕ → List ℕ → List ℕ → List ℕ → Transition → Type 0
-IsHandled count stream first unread step =
-    ((acts : List Act) × RespondsTo count stream first acts unread step)
-    ⊎ ((w : WritingResponse) × (step ≡ step_without_output (states.Write w) true) × IsWriting count stream first w unread)
-    ⊎ ((w : WaitingResponse) × (step ≡ step_without_output (states.Wait w) true) × IsWaiting count stream first w unread)
+abbrev pub IsHandled : ServedChannel → List ℕ → List ℕ → List ℕ → Transition → Type 0
+IsHandled channel stream first unread step =
+    ((acts : List Act) × RespondsTo channel stream first acts unread step)
+    ⊎ ((w : WritingResponse) × (step ≡ step_without_output (states.Write w) true) × IsWriting channel stream first w unread)
+    ⊎ ((w : WaitingResponse) × (step ≡ step_without_output (states.Wait w) true) × IsWaiting channel stream first w unread)
 
 -- the result of a step if nothing waits to be sent, whatever was received and sent before
-abbrev pub StepStaysConsistent : ℕ → Bool → ConnectionState → List ℕ → Transition → List ℕ → Type 0
-StepStaysConsistent count ended old before step after =
+abbrev pub StepStaysConsistent : ServedChannel → Bool → ConnectionState → List ℕ → Transition → List ℕ → Type 0
+StepStaysConsistent channel ended old before step after =
     (received sent : List ℕ) (past_acts : List Act)
-    → IsConsistent count old (record { received = received; ended = ended; unread = before; acts = past_acts; sent = sent; pending = [] })
-    → IsConsistent count step.state (record { received = received; ended = ended; unread = after; acts = past_acts ++ step.acts; sent = sent; pending = step.output })
+    → IsConsistent channel old (record { received = received; ended = ended; unread = before; acts = past_acts; sent = sent; pending = [] })
+    → IsConsistent channel step.state (record { received = received; ended = ended; unread = after; acts = past_acts ++ step.acts; sent = sent; pending = step.output })
 
 -- what was asked for the request that is over by it, and for the next one
 abbrev pub acts_of_step : Transition → List Act

@@ -1,5 +1,6 @@
 -- For the proofs of this crate; public clauses cite it only in the terms of connections.
 -- A connection, by all that came of it.
+use Rattle.hls_api.specs.declared.route.ServedChannel.{ServedChannel}
 use Rattle.std.specs.Prelude.{◌≡◌, ◌⊎◌, ◌<◌, ℕ, Bool, false, List, [], ◌++◌, flat_map, length, take, drop, Option, IsFalse, IsTrue}
 use Rattle.hls_core_laws.specs.{IsState.IsState}
 use Rattle.hls_api.specs.{Acts.{Act, ActsExtend, Knowledge}, OtherActors.OtherActors, ConnectionStates.History, ActLinks.AreLinked}
@@ -12,14 +13,14 @@ use Rattle.hls_connection.specs.declared.state.ConnectionState.TheVariants as st
 
 -- its state, and its history but for the acts for the request that isn't over
 pub record ConnectionTrace : Type 0 where
-  pub renditions : ℕ
+  pub channel : ServedChannel
   pub state : ConnectionState
   pub past : History
 
 -- what was noted read by read and piece by piece, with what is unread
 abbrev pub trace_at : ConnectionMachine → List ℕ → ConnectionTrace
 trace_at w unread = record {
-  renditions = w.renditions;
+  channel = w.channel;
   state = w.state;
   past = record {
     received = flat_map (λ r. drop r.1 r.0.unread) w.notes.reads.items;
@@ -38,20 +39,20 @@ abbrev pub history_of : ConnectionTrace → History
 history_of c = record c.past { acts = all_acts c }
 
 abbrev pub IsConsistentTrace : ConnectionTrace → Type 0
-IsConsistentTrace c = IsConsistent c.renditions c.state c.past
+IsConsistentTrace c = IsConsistent c.channel c.state c.past
 
 -- ---- with or without memory of its own
 
 -- one that is idle is between two requests, and nothing waits
-abbrev pub idle_machine : ℕ → ConnectionNotes → ConnectionMachine
-idle_machine renditions notes = record { renditions = renditions; state = states.Head; output = []; ended = false; notes = notes }
+abbrev pub idle_machine : ServedChannel → ConnectionNotes → ConnectionMachine
+idle_machine channel notes = record { channel = channel; state = states.Head; output = []; ended = false; notes = notes }
 
 abbrev pub trace_of : ConnectionMemory → ConnectionTrace
-trace_of (places.Idle renditions notes) = trace_at (idle_machine renditions notes) []
+trace_of (places.Idle own notes) = trace_at (idle_machine own notes) []
 trace_of (places.Active b) = trace_at b.value.machine b.value.input.unread
 
 abbrev pub IsActive : ConnectionMemory → Type 0
-IsActive (places.Idle renditions notes) = ⊥
+IsActive (places.Idle own notes) = ⊥
 IsActive (places.Active b) = Unit {0}
 
 -- there is nothing to do
@@ -67,9 +68,9 @@ pub record IsFresh (notes : ConnectionNotes) : Type 0 where
   pub reads : notes.reads.items ≡ []
   pub writes : notes.writes.items ≡ []
 
-abbrev pub HasNothing : ConnectionMemory → ℕ → Type 0
-HasNothing (places.Idle renditions notes) count = (renditions ≡ count) × IsFresh notes
-HasNothing (places.Active b) count = ⊥
+abbrev pub HasNothing : ConnectionMemory → ServedChannel → Type 0
+HasNothing (places.Idle own notes) channel = (own ≡ channel) × IsFresh notes
+HasNothing (places.Active b) channel = ⊥
 
 -- ---- what is done with it
 
@@ -113,15 +114,15 @@ trace_steps_left c = steps_in c.state c.past.unread
 
 -- All that the connection asked for links what some keeper knew at first to what it knows; so it knows the init section under which a
 -- body is read.
-pub record IsSuited (known : Knowledge) (count : ℕ) (acts : List Act) (state : ConnectionState) : Type 0 where
+pub record IsSuited (known : Knowledge) (channel : ServedChannel) (acts : List Act) (state : ConnectionState) : Type 0 where
   pub first : Knowledge
   pub valid : IsState first.seen
-  pub count_is : count ≡ length first.seen.config.renditions
+  pub count_is : channel.renditions ≡ length first.seen.config.renditions
   pub linked : AreLinked first acts known
   pub body : SuitsState known state
 
 abbrev pub IsSuitedTo : Knowledge → ConnectionTrace → Type 0
-IsSuitedTo known c = IsSuited known c.renditions (all_acts c) c.state
+IsSuitedTo known c = IsSuited known c.channel (all_acts c) c.state
 
 -- what steps do: nothing is read or sent, and what holds and suits holds and suits after them
 pub record Advances (m : OtherActors) (a : Knowledge) (old : ConnectionTrace) (b : Knowledge) (new : ConnectionTrace) : Type 0 where
@@ -129,4 +130,4 @@ pub record Advances (m : OtherActors) (a : Knowledge) (old : ConnectionTrace) (b
   pub holds : IsConsistentTrace old → IsConsistentTrace new
   pub acted : ActsExtend m a (all_acts old) b (all_acts new)
   pub quiet : StaysQuiet (history_of old) (history_of new)
-  pub renditions : new.renditions ≡ old.renditions
+  pub channel : new.channel ≡ old.channel

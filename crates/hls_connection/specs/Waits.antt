@@ -1,5 +1,6 @@
 -- For the proofs of this crate; no public clause cites it.
 -- Responses that wait for a job to be finished.
+use Rattle.hls_api.specs.declared.route.ServedChannel.{ServedChannel}
 use Rattle.std.specs.Prelude.{◌≡◌, ◌⊎◌, ◌≤◌, ℕ, ◌+◌, ◌*◌, ◌-◌, ◌^◌, min, nat_lt, Bool, true, false, cond, ◌&&◌, List, ◌++◌, Option, Some, None, Result, Ok, IsTrue}
 use Rattle.httparse.specs.Grammar.{RequestHead}
 use Rattle.hls_catchup.specs.{declared.fault.JobFault.JobFault, declared.jobs.job.Job.Job}
@@ -50,17 +51,17 @@ is_unfinished found = false
 -- ---- the answer
 
 -- what is due shows the job as it was found; or an allocation failed
-abbrev pub IsJobDue : ℕ → RequestHead → ℕ → Result Job JobFault → DueResponse → Type 0
-IsJobDue count h id found due =
-    ((answer : ResponseData) × IsJobResponse found (shown_if (params_of count h) (routes.Job id) (allows (routes.Job id) (params_of count h).method)) answer
-    × IsDue h (request_of count h).action answer false due)
-    ⊎ (due ≡ due_for_memory h (request_of count h).action)
+abbrev pub IsJobDue : ServedChannel → RequestHead → ℕ → Result Job JobFault → DueResponse → Type 0
+IsJobDue channel h id found due =
+    ((answer : ResponseData) × IsJobResponse found (shown_if (params_of channel h) (routes.Job id) (allows (routes.Job id) (params_of channel h).method)) answer
+    × IsDue h (request_of channel h).action answer false due)
+    ⊎ (due ≡ due_for_memory h (request_of channel h).action)
 
 -- what is sent, after 100 Continue where that was sent, makes up what is due
 abbrev pub IsAnswered : WaitingResponse → Result Job JobFault → List ℕ → Type 0
 IsAnswered w found output =
-    (count : ℕ) (h : RequestHead) → IsContextOf count h w.context
-    → (due : DueResponse) × IsJobDue count h w.id found due × (due.text ≡ continue_prefix h (request_of count h).action ++ output)
+    (channel : ServedChannel) (h : RequestHead) → IsContextOf channel h w.context
+    → (due : DueResponse) × IsJobDue channel h w.id found due × (due.text ≡ continue_prefix h (request_of channel h).action ++ output)
 
 -- it waits on, or it answers
 abbrev pub AnswersWith : WaitingResponse → Result Job JobFault → Bool → Option Transition → Type 0

@@ -1,6 +1,7 @@
 -- For the proofs of this crate; no public clause cites it.
 -- A request whose body is received, and how that continues.
-use Rattle.std.specs.Prelude.{◌≡◌, ◌≤◌, ℕ, ◌+◌, ◌-◌, true, false, not, List, [], ◌++◌, length, Option, None, Some, Result, Ok, Err, codes}
+use Rattle.hls_api.specs.declared.route.ServedChannel.{ServedChannel}
+use Rattle.std.specs.Prelude.{◌≡◌, ◌≤◌, ℕ, ◌+◌, ◌-◌, Bool, true, false, not, List, [], ◌++◌, length, Option, None, Some, Result, Ok, Err, codes}
 use Rattle.std.specs.Option.{is_some}
 use Rattle.httparse.specs.Grammar.{RequestHead}
 use Rattle.hls_boxes.specs.Parts.{text_fault}
@@ -10,9 +11,9 @@ use Rattle.hls_http.specs.{declared.request_action.RequestAction.TheVariants.{In
 use Rattle.hls_http.specs.{Fields.{values, wait_of_values}, Methods.method_of, Requests.fields_of, declared.end.BodyEnd.BodyEnd}
 use Rattle.hls_http.specs.declared.end.DiscardEnd.{DiscardEnd}
 use Rattle.hls_event_loop.specs.declared.activity.ConnectionStage.{ConnectionStage}
-use Rattle.hls_api.specs.{declared.ingest.IngestStop.IngestStop, declared.route.Route.Route, Acts.Knowledge, Routes.takes_ingest}
+use Rattle.hls_api.specs.{declared.ingest.IngestStop.IngestStop, declared.route.Route.Route, declared.route.IngestTarget.IngestTarget, Acts.Knowledge, Routes.takes_ingest}
 use Rattle.hls_api.specs.Exchanges.{DiscardsBody, params_of, continue_prefix, request_of}
-use Rattle.hls_api.specs.Ingest.{HandlesBody, HandlesPart, ingest_stop_of, no_progress}
+use Rattle.hls_api.specs.Ingest.{HandlesBody, IngestsPart, ingest_stop_of, no_progress}
 use Rattle.hls_connection.specs.{declared.request_context.RequestContext.RequestContext, declared.ingest_sink.IngestState.IngestState}
 use Rattle.hls_connection.specs.{declared.receive.BodyTarget.BodyTarget, declared.receive.BodyProgress.BodyProgress, declared.receive.ReceivingBody.ReceivingBody, declared.state.WaitingResponse.WaitingResponse, declared.state.WritingResponse.WritingResponse, Waits.may_wait}
 use Rattle.hls_connection.specs.declared.receive.BodyTarget.TheVariants.{Nothing, Encoder}
@@ -26,16 +27,16 @@ use Rattle.hls_api.specs.declared.route.Route.TheVariants as routes
 
 -- at the front of the stream, whatever follows it, are a head, of which this was kept, and some of a body, of which this is left; this
 -- was written for it first
-pub record HasBody (count : ℕ) (stream first : List ℕ) (context : RequestContext) (action : BodyFraming → RequestAction) (last : BodyFraming) (unread : List ℕ) : Type 0 where
+pub record HasBody (channel : ServedChannel) (stream first : List ℕ) (context : RequestContext) (action : BodyFraming → RequestAction) (last : BodyFraming) (unread : List ℕ) : Type 0 where
   pub head : RequestHead
   pub following : List ℕ
   pub reads : (later : List ℕ) → ReadsLimitedHead (stream ++ later) head (following ++ later)
-  pub is_context : IsContextOf count head context
+  pub is_context : IsContextOf channel head context
   pub body : BodyFraming
-  pub plan_is : (request_of count head).action ≡ action body
+  pub plan_is : (request_of channel head).action ≡ action body
   pub content : List ℕ
   pub runs : (later : List ℕ) → StepsThrough body (following ++ later) content last (unread ++ later)
-  pub first_is : first ≡ continue_prefix head (request_of count head).action
+  pub first_is : first ≡ continue_prefix head (request_of channel head).action
 
 -- ---- what becomes of the content
 
@@ -45,27 +46,32 @@ IsDiscardable route context = takes_ingest (Some route) context.head.method ≡ 
 
 abbrev pub IsForTarget : BodyTarget → Route → RequestContext → Type 0
 IsForTarget (Nothing room) route context = IsDiscardable route context
-IsForTarget (Encoder rendition reader) route context = route ≡ routes.Ingest rendition
+IsForTarget (Encoder encoder reader) route context = route ≡ routes.Ingest encoder
 
 -- the keeper has seen the init section under which an encoder's body is read
 abbrev pub SuitsTarget : Knowledge → BodyTarget → IngestState → Type 0
 SuitsTarget known (Nothing room) taken = Unit {0}
-SuitsTarget known (Encoder rendition reader) taken = IsUsable rendition known taken.init
+SuitsTarget known (Encoder encoder reader) taken = IsUsable encoder.rendition known taken.init
 
 -- what the connection waits for while more of the body is to come
 abbrev pub status_into : BodyTarget → ConnectionStage
 status_into (Nothing room) = stages.Discarding
-status_into (Encoder rendition reader) = stages.Ingesting
+status_into (Encoder encoder reader) = stages.Ingesting
+
+-- whether it is an encoder's whose units are mended
+abbrev pub is_mended_into : BodyTarget → Bool
+is_mended_into (Nothing room) = false
+is_mended_into (Encoder encoder reader) = is_some encoder.mending
 
 abbrev pub action_into : BodyTarget → (BodyFraming → RequestAction)
 action_into (Nothing room) = Discard
-action_into (Encoder rendition reader) = Ingest
+action_into (Encoder encoder reader) = Ingest
 
 -- what came of the content so far: it is counted, with what is announced; or its parts were handled
 abbrev pub HasReceived : BodyTarget → Route → IngestState → List ℕ → BodyFraming → Type 0
 HasReceived (Nothing room) route taken content last = (taken.acts ≡ []) × ((room + length content) + announced_len last ≡ 65536)
-HasReceived (Encoder rendition reader) route taken content last =
-    (route ≡ routes.Ingest rendition) × Reached (HandlesPart rendition) no_progress content reader (progress_of taken)
+HasReceived (Encoder encoder reader) route taken content last =
+    (route ≡ routes.Ingest encoder) × Reached (IngestsPart encoder) no_progress content reader (progress_of taken)
 
 -- why no more of it is taken, where its feed failed, or where it ended within a part
 abbrev pub fed_as : Result (Unit {0}) FeedFault → Result (Unit {0}) IngestStop
@@ -79,63 +85,63 @@ ended_as (Err fault) = Err (ingest_stops.Refused fault)
 -- a piece of it is taken
 abbrev pub TakesPiece : BodyTarget → IngestState → List ℕ → BodyTarget → IngestState → Result (Unit {0}) IngestStop → Type 0
 TakesPiece (Nothing room) taken piece target now result = (target ≡ Nothing room) × (now ≡ taken) × (result ≡ Ok tt)
-TakesPiece (Encoder rendition reader) taken piece target now result = (later : List ℕ) × (target ≡ Encoder rendition later)
-    × ((of : Result (Unit {0}) FeedFault) × (result ≡ fed_as of) × Feeds (HandlesPart rendition) reader piece later (progress_of taken) (progress_of now) of)
+TakesPiece (Encoder encoder reader) taken piece target now result = (later : List ℕ) × (target ≡ Encoder encoder later)
+    × ((of : Result (Unit {0}) FeedFault) × (result ≡ fed_as of) × Feeds (IngestsPart encoder) reader piece later (progress_of taken) (progress_of now) of)
 
 -- this many more bytes may be announced, and are counted then
 abbrev pub HasRoom : BodyTarget → ℕ → Type 0
 HasRoom (Nothing room) len = len ≤ room
-HasRoom (Encoder rendition reader) len = Unit {0}
+HasRoom (Encoder encoder reader) len = Unit {0}
 
 abbrev pub target_after_frame : BodyTarget → ℕ → BodyTarget
 target_after_frame (Nothing room) len = Nothing (room - len)
-target_after_frame (Encoder rendition reader) len = Encoder rendition reader
+target_after_frame (Encoder encoder reader) len = Encoder encoder reader
 
 -- at the content's end
 abbrev pub EndsTarget : BodyTarget → Result (Unit {0}) IngestStop → Type 0
 EndsTarget (Nothing room) result = result ≡ Ok tt
-EndsTarget (Encoder rendition reader) result = (of : Result (Unit {0}) StreamFault) × (result ≡ ended_as of)
+EndsTarget (Encoder encoder reader) result = (of : Result (Unit {0}) StreamFault) × (result ≡ ended_as of)
     × ((content : List ℕ) → text_fault content ≡ None → IsLeft content reader → EndsStream content of)
 
 -- ---- a request
 
-pub record IsReceiving (count : ℕ) (stream first : List ℕ) (r : ReceivingBody) (unread : List ℕ) : Type 0 where
-  pub at : HasBody count stream first r.context (action_into r.target) r.body unread
+pub record IsReceiving (channel : ServedChannel) (stream first : List ℕ) (r : ReceivingBody) (unread : List ℕ) : Type 0 where
+  pub at : HasBody channel stream first r.context (action_into r.target) r.body unread
   pub route : r.context.route ≡ Some r.route
   pub received : HasReceived r.target r.route r.taken at.content r.body
 
 -- no more is read of a body that is discarded, whatever follows
-pub record IsDiscarded (count : ℕ) (stream first : List ℕ) (context : RequestContext) (route : Route) (last : BodyFraming) (unread : List ℕ) (result : Result (Unit {0}) DiscardEnd) : Type 0 where
-  pub at : HasBody count stream first context Discard last unread
+pub record IsDiscarded (channel : ServedChannel) (stream first : List ℕ) (context : RequestContext) (route : Route) (last : BodyFraming) (unread : List ℕ) (result : Result (Unit {0}) DiscardEnd) : Type 0 where
+  pub at : HasBody channel stream first context Discard last unread
   pub route_is : context.route ≡ Some route
   pub discarded : (later : List ℕ) → DiscardsBody at.content last (unread ++ later) result
 
 -- .. of an encoder's
-pub record IsIngested (count : ℕ) (stream first : List ℕ) (r : ReceivingBody) (rendition : ℕ) (unread : List ℕ) (result : Result (Unit {0}) IngestStop) : Type 0 where
-  pub at : HasBody count stream first r.context Ingest r.body unread
-  pub route_is : r.context.route ≡ Some (routes.Ingest rendition)
-  pub handles : (later : List ℕ) → HandlesBody rendition at.body at.content r.body (unread ++ later) (progress_of r.taken) (not (is_over r.body)) result
+pub record IsIngested (channel : ServedChannel) (stream first : List ℕ) (r : ReceivingBody) (encoder : IngestTarget) (unread : List ℕ) (result : Result (Unit {0}) IngestStop) : Type 0 where
+  pub at : HasBody channel stream first r.context Ingest r.body unread
+  pub route_is : r.context.route ≡ Some (routes.Ingest encoder)
+  pub handles : (later : List ℕ) → HandlesBody encoder at.body at.content r.body (unread ++ later) (progress_of r.taken) (not (is_over r.body)) result
   -- a body that has ended early gets a response if its framing is bad
   pub replied : (end : BodyEnd) → result ≡ Err (ingest_stops.Stopped end) → end ≡ bodies.BadFraming
 
-abbrev pub DiscardsSo : ℕ → List ℕ → List ℕ → ReceivingBody → List ℕ → Result (Unit {0}) DiscardEnd → Type 0
-DiscardsSo count stream first r unread result = (r.taken.acts ≡ []) × IsDiscarded count stream first r.context r.route r.body unread result
+abbrev pub DiscardsSo : ServedChannel → List ℕ → List ℕ → ReceivingBody → List ℕ → Result (Unit {0}) DiscardEnd → Type 0
+DiscardsSo channel stream first r unread result = (r.taken.acts ≡ []) × IsDiscarded channel stream first r.context r.route r.body unread result
 
-abbrev pub IsReceived : ℕ → List ℕ → List ℕ → ReceivingBody → BodyTarget → List ℕ → Result (Unit {0}) IngestStop → Type 0
-IsReceived count stream first r (Encoder rendition reader) unread result = IsIngested count stream first r rendition unread result
-IsReceived count stream first r (Nothing room) unread (Ok done) = DiscardsSo count stream first r unread (Ok tt)
-IsReceived count stream first r (Nothing room) unread (Err (ingest_stops.Stopped bodies.BadFraming)) = DiscardsSo count stream first r unread (Err (discards.Stopped bodies.BadFraming))
-IsReceived count stream first r (Nothing room) unread (Err stop) = ⊥
+abbrev pub IsReceived : ServedChannel → List ℕ → List ℕ → ReceivingBody → BodyTarget → List ℕ → Result (Unit {0}) IngestStop → Type 0
+IsReceived channel stream first r (Encoder encoder reader) unread result = IsIngested channel stream first r encoder unread result
+IsReceived channel stream first r (Nothing room) unread (Ok done) = DiscardsSo channel stream first r unread (Ok tt)
+IsReceived channel stream first r (Nothing room) unread (Err (ingest_stops.Stopped bodies.BadFraming)) = DiscardsSo channel stream first r unread (Err (discards.Stopped bodies.BadFraming))
+IsReceived channel stream first r (Nothing room) unread (Err stop) = ⊥
 
-abbrev pub ReceiveProgresses : ℕ → List ℕ → List ℕ → ReceivingBody → List ℕ → BodyProgress → Type 0
-ReceiveProgresses count stream first r unread More = IsReceiving count stream first r unread
-ReceiveProgresses count stream first r unread Wait = IsReceiving count stream first r unread × IsOpen r.body unread
-ReceiveProgresses count stream first r unread TooLarge = DiscardsSo count stream first r unread (Err discards.TooLarge)
-ReceiveProgresses count stream first r unread (Done result) = IsReceived count stream first r r.target unread result
+abbrev pub ReceiveProgresses : ServedChannel → List ℕ → List ℕ → ReceivingBody → List ℕ → BodyProgress → Type 0
+ReceiveProgresses channel stream first r unread More = IsReceiving channel stream first r unread
+ReceiveProgresses channel stream first r unread Wait = IsReceiving channel stream first r unread × IsOpen r.body unread
+ReceiveProgresses channel stream first r unread TooLarge = DiscardsSo channel stream first r unread (Err discards.TooLarge)
+ReceiveProgresses channel stream first r unread (Done result) = IsReceived channel stream first r r.target unread result
 
 -- what comes of it at a front, whatever came before
 abbrev pub ReceivesFrom : ReceivingBody → List ℕ → ReceivingBody → List ℕ → BodyProgress → Type 0
-ReceivesFrom old unread new rest progress = (count : ℕ) (stream first : List ℕ) → IsReceiving count stream first old unread → ReceiveProgresses count stream first new rest progress
+ReceivesFrom old unread new rest progress = (channel : ServedChannel) (stream first : List ℕ) → IsReceiving channel stream first old unread → ReceiveProgresses channel stream first new rest progress
 
 -- ---- a response that waits
 
@@ -145,9 +151,9 @@ preferred_wait h = wait_of_values (values (codes "prefer") (fields_of h))
 
 -- a request for a job's status whose body was discarded whole, and whose head lets the response wait; the keeper wasn't asked anything
 -- for it
-pub record IsWaiting (count : ℕ) (stream first : List ℕ) (w : WaitingResponse) (unread : List ℕ) : Type 0 where
+pub record IsWaiting (channel : ServedChannel) (stream first : List ℕ) (w : WaitingResponse) (unread : List ℕ) : Type 0 where
   pub last : BodyFraming
-  pub discarded : IsDiscarded count stream first w.context (routes.Job w.id) last unread (Ok tt)
+  pub discarded : IsDiscarded channel stream first w.context (routes.Job w.id) last unread (Ok tt)
   pub prefers : is_some (preferred_wait discarded.at.head) ≡ true
   pub waits : may_wait (method_of discarded.at.head.method) ≡ true
   pub asked : w.acts ≡ []
@@ -155,7 +161,7 @@ pub record IsWaiting (count : ℕ) (stream first : List ℕ) (w : WaitingRespons
 -- ---- a response that is made in parts
 
 -- a request whose body was discarded whole; for such a response to it the keeper was asked this
-pub record IsWriting (count : ℕ) (stream first : List ℕ) (w : WritingResponse) (unread : List ℕ) : Type 0 where
+pub record IsWriting (channel : ServedChannel) (stream first : List ℕ) (w : WritingResponse) (unread : List ℕ) : Type 0 where
   pub last : BodyFraming
-  pub discarded : IsDiscarded count stream first w.context w.route last unread (Ok tt)
-  pub answers : IsResponse (params_of count discarded.at.head) w.route [] w.acts w.response
+  pub discarded : IsDiscarded channel stream first w.context w.route last unread (Ok tt)
+  pub answers : IsResponse (params_of channel discarded.at.head) w.route [] w.acts w.response

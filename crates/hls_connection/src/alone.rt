@@ -16,6 +16,7 @@ use hls_core_laws::done::Done;
 use hls_core_laws::event::Event;
 use hls_core_laws::refusal::Refusal;
 use hls_jobs::JobTable;
+use hls_metrics::Measured;
 use hls_playlists::MediaUris;
 use http_server::Log;
 use std::alloc::{AllocError, Global};
@@ -116,5 +117,9 @@ impl Keeper for Alone {
 
     fn job_count(&self) -> usize {
         self.jobs.len()
+    }
+
+    fn measured(&self) -> Measured {
+        Measured::nothing()
     }
 }

@@ -16,6 +16,7 @@ use hls_core_laws::done::Done;
 use hls_core_laws::event::Event;
 use hls_core_laws::refusal::Refusal;
 use hls_http::{Session, SessionEnd};
+use hls_metrics::Measured;
 use hls_playlists::MediaUris;
 use hls_turn::Pass;
 use http_server::Log;
@@ -124,6 +125,10 @@ impl<'a, T: Wait> Keeper for ChannelHandle<'a, T> {
 
     fn job_count(&self) -> usize {
         self.channel.jobs.len(self.rt)
+    }
+
+    fn measured(&self) -> Measured {
+        self.channel.measurements.measured()
     }
 }
 

@@ -7,12 +7,14 @@ ghost use Rattle.hls_api.specs.ConnectionStates.{IsServed, Over};
 ghost use Rattle.hls_connection.specs.Histories.{HasRead, FailsToRead, StaysQuiet, after_sent, new_history};
 ghost use Rattle.hls_connection.specs.{Traces.HasNothing, Traces.IsActive, Traces.IsIdle, Traces.trace_after_send, Traces.trace_at, Traces.trace_of, Traces.IsConsistentTrace, NeedsMore.NeedsMore};
 
-use crate::events::{Observer, SessionEvent, report_some};
+use crate::events::{IngestReport, Observer, SessionEvent, report_some};
 use crate::keeper::Keeper;
 use crate::machine::{ConnectionMachine, ConnectionNotes};
 use crate::state::ConnectionState;
+use hls_api::route::ServedChannel;
 use hls_event_loop::ConnectionStage;
 use hls_http::{InputBuffer, SessionEnd};
+use hls_mend_laws::settings::MendSettings;
 use std::alloc::{AllocError, Global};
 use std::io::Read;
 use std::{io, mem};
@@ -20,12 +22,18 @@ use std::{io, mem};
 /// The most unread bytes.
 const MOST_UNREAD: usize = 65536;
 
+/// The channel of a connection whose memory was taken.
+const NO_CHANNEL: ServedChannel = ServedChannel {
+    renditions: 0,
+    mending: None,
+};
+
 /// Where a connection's memory is.
 #[derive(Drop)]
 pub(crate) enum ConnectionMemory {
     /// It has none: it is between two requests, nothing is unread, and nothing waits to be sent.
     Idle {
-        renditions: usize,
+        channel: ServedChannel,
         notes: ConnectionNotes,
     },
     /// It is on the heap.
@@ -60,7 +68,7 @@ impl ActiveConnection {
     {
         let machine = self.machine;
         ConnectionMemory::Idle {
-            renditions: machine.renditions,
+            channel: machine.channel,
             notes: machine.notes,
         }
     }
@@ -68,11 +76,11 @@ impl ActiveConnection {
 
 impl ConnectionMemory {
     /// That of a new connection: none.
-    fn new(renditions: usize) -> ConnectionMemory
-        ensures { HasNothing result renditions }
+    fn new(channel: ServedChannel) -> ConnectionMemory
+        ensures { HasNothing result channel }
     {
         let notes = ConnectionNotes::new();
-        ConnectionMemory::Idle { renditions, notes }
+        ConnectionMemory::Idle { channel, notes }
     }
 
     /// Allocates the memory if there is none. After an error nothing has changed.
@@ -80,15 +88,15 @@ impl ConnectionMemory {
         ensures trace { trace_of self.new ≡ trace_of self.old }
         ensures active { OnOk result (IsActive self.new) }
     {
-        let (renditions, notes) = match mem::replace(self, ConnectionMemory::new(0)) {
-            ConnectionMemory::Idle { renditions, notes } => (renditions, notes),
+        let (channel, notes) = match mem::replace(self, ConnectionMemory::new(NO_CHANNEL)) {
+            ConnectionMemory::Idle { channel, notes } => (channel, notes),
             active => {
                 *self = active;
                 return Ok(());
             }
         };
         let input = InputBuffer::empty(alloc);
-        let machine = ConnectionMachine::new(renditions, notes);
+        let machine = ConnectionMachine::new(channel, notes);
         match Box::new(alloc, ActiveConnection { input, machine }) {
             Ok(active) => {
                 *self = ConnectionMemory::Active(active);
@@ -106,7 +114,7 @@ impl ConnectionMemory {
     fn release(&mut self)
         ensures { trace_of self.new ≡ trace_of self.old }
     {
-        match mem::replace(self, ConnectionMemory::new(0)) {
+        match mem::replace(self, ConnectionMemory::new(NO_CHANNEL)) {
             ConnectionMemory::Active(active) if active.is_idle() => {
                 *self = Box::into_inner(active).into_idle();
             }
@@ -136,7 +144,7 @@ impl ConnectionMemory {
 /// it `wants_write`. After its `end` only what waits is still to be sent.
 ///
 /// It borrows the keeper of its channel at each `advance`; the same keeper may serve others between. While it is idle it holds no
-/// memory but its own 16 bytes, and nothing of what it sent.
+/// memory but its own 32 bytes, and nothing of what it sent.
 #[derive(Drop)]
 pub struct Connection {
     alloc: Global,
@@ -145,17 +153,22 @@ pub struct Connection {
 }
 
 impl Connection {
-    ghost use Rattle.hls_connection.specs.Connections.{AnswersWait, IsStatus, IsIdleOrBlocked, KeeperSuits, Waits, WantsRead, deadline, read_failure_event, history, renditions_of, stage, steps_left};
+    ghost use Rattle.hls_connection.specs.Connections.{AnswersWait, IsStatus, IsIdleOrBlocked, KeeperSuits, Waits, WantsRead, deadline, read_failure_event, history, channel_of, stage, steps_left};
     ghost use Rattle.hls_connection.specs.Waits.{IsAhead, IsDeadline};
 
-    /// A new connection to the keeper's channel. It doesn't allocate.
-    pub fn new<K: Keeper>(keeper: &K) -> Connection
+    /// A new connection to the keeper's channel, whose units are mended so, if at all. It doesn't allocate.
+    pub fn new<K: Keeper>(keeper: &K, mending: Option<MendSettings>) -> Connection
         ensures history { history result ≡ new_history }
         ensures suits { KeeperSuits (K.known keeper.now) result }
+        ensures mending { (channel_of result).mending ≡ mending }
     {
+        let channel = ServedChannel {
+            renditions: keeper.rendition_count(),
+            mending,
+        };
         Connection {
             alloc: keeper.alloc(),
-            memory: ConnectionMemory::new(keeper.rendition_count()),
+            memory: ConnectionMemory::new(channel),
         }
     }
 
@@ -165,7 +178,7 @@ impl Connection {
         ensures ok { IfOk result (HasRead (history self.old) (history self.new) (R.remaining reader.old) (R.remaining reader.new)) }
         ensures err { OnErr result (FailsToRead (history self.old) (history self.new) (R.remaining reader.old) (R.remaining reader.new)) }
         ensures stage { stage self.new ≡ stage self.old }
-        ensures renditions { renditions_of self.new ≡ renditions_of self.old }
+        ensures channel { channel_of self.new ≡ channel_of self.old }
         ensures suits { (known : Knowledge) → KeeperSuits known self.old → KeeperSuits known self.new }
     {
         self.memory.allocate(self.alloc)?;
@@ -202,7 +215,7 @@ impl Connection {
         ensures answers { Waits self.old → AnswersWait now self.old self.new }
         ensures progress { IsTrue result → steps_left self.new < steps_left self.old }
         ensures quiet { StaysQuiet (history self.old) (history self.new) }
-        ensures renditions { renditions_of self.new ≡ renditions_of self.old }
+        ensures channel { channel_of self.new ≡ channel_of self.old }
     {
         let ConnectionMemory::Active(active) = &mut self.memory else {
             return false;
@@ -230,7 +243,7 @@ impl Connection {
         requires { count ≤ length (history self.old).pending }
         ensures history { history self.new ≡ after_sent (history self.old) count }
         ensures stage { stage self.new ≡ stage self.old }
-        ensures renditions { renditions_of self.new ≡ renditions_of self.old }
+        ensures channel { channel_of self.new ≡ channel_of self.old }
         ensures suits { (known : Knowledge) → KeeperSuits known self.old → KeeperSuits known self.new }
     {
         self.memory.mark_sent(count);
@@ -281,6 +294,20 @@ impl Connection {
         }
     }
 
+    /// What was ingested so far of the encoder's body that is received now, if one is.
+    pub fn ingest_progress(&self) -> Option<IngestReport> {
+        let ConnectionMemory::Active(active) = &self.memory else {
+            return None;
+        };
+        let ConnectionState::Receive(receiving) = &active.machine.state else {
+            return None;
+        };
+        match receiving.ingest_event(Ok(())) {
+            Some(SessionEvent::Ingested(report)) => Some(report),
+            _ => None,
+        }
+    }
+
     /// What the connection waits for, or does.
     pub fn status(&self) -> ConnectionStage
         ensures { IsStatus result self.now }
@@ -319,7 +346,7 @@ impl Connection {
 
     /// A law: what was received is answered in order, and the bytes that were sent or wait are the responses.
     pub fn responses_are_in_order(&self)
-        ensures { ∥ IsServed (renditions_of self.now) (stage self.now) (history self.now) ∥₁ }
+        ensures { ∥ IsServed (channel_of self.now) (stage self.now) (history self.now) ∥₁ }
     {}
 
     /// A law: a connection that is idle or blocked, isn't over and has nothing to send needs more of its stream, which hasn't ended.
@@ -328,6 +355,6 @@ impl Connection {
         requires nothing { length (history self.now).pending ≡ 0 }
         requires continues { IsNotOver (stage self.now) }
         ensures unended { IsFalse (history self.now).ended }
-        ensures needs { ∥ NeedsMore (renditions_of self.now) (stage self.now) (history self.now) ∥₁ }
+        ensures needs { ∥ NeedsMore (channel_of self.now) (stage self.now) (history self.now) ∥₁ }
     {}
 }

@@ -10,6 +10,8 @@ use hls_http::response_parts::Status;
 pub struct IngestReport {
     /// The rendition that it was for.
     pub rendition: usize,
+    /// Whether its units are mended.
+    pub is_mended: bool,
     /// How many of its parts were accepted.
     pub counts: IngestCounts,
     /// Why no more of it is accepted, if it didn't end.

@@ -16,8 +16,9 @@ use hls_api::route::Route;
 use hls_api::{
     Response, SegmentSpan, added_response, fault_response, file_response, finish_response,
     init_response, job_response, live_master_response, make_request, media_response,
-    method_not_allowed_response, path_master_response, query_response, removed_response,
-    resolve_query, run_response, segment_response, status_response,
+    method_not_allowed_response, metrics_response, path_master_response, programme_response,
+    query_response, removed_response, resolve_query, run_response, segment_response,
+    status_response,
 };
 use hls_catchup::{Job, JobFault};
 use hls_core::snapshot::Snapshot;
@@ -25,6 +26,7 @@ use hls_core_laws::event::Event;
 use hls_core_laws::refusal::Refusal;
 use hls_http::HttpFault;
 use hls_http::range_spec::RangeSpec;
+use hls_jobs::served_version;
 use hls_playlists::MediaUris;
 use std::alloc::{AllocError, Global};
 use std::sync::Arc;
@@ -68,7 +70,7 @@ fn add_resolved_job<K: Keeper>(
     let state = look(keeper, acts)?;
     match resolve_query(state.config().epoch(), query) {
         Ok(params) => {
-            let version = state.version();
+            let version = served_version(&state);
             let request = make_request(&state, params);
             let added = add_job(keeper, acts, state, request);
             added_response(keeper.alloc(), version, added)
@@ -186,6 +188,13 @@ fn handle_route<K: Keeper>(
         Route::Status => {
             let jobs = keeper.job_count();
             status_response(keeper.alloc(), &state, jobs)
+        }
+        Route::Metrics => {
+            let (jobs, measured) = (keeper.job_count(), keeper.measured());
+            metrics_response(keeper.alloc(), &state, jobs, &measured)
+        }
+        Route::Programme(start, stop, file) => {
+            programme_response(keeper.alloc(), state, start, stop, file)
         }
         _ => show_player(keeper, context, route, state),
     }

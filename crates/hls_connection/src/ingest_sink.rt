@@ -8,6 +8,7 @@ use crate::act_log::{ActLog, look, submit};
 use crate::keeper::Keeper;
 use bytes::Bytes;
 use hls_api::ingest::IngestCounts;
+use hls_api::route::IngestTarget;
 use hls_boxes::Part;
 use hls_core::{FeedFault, PartSink, StreamFault};
 use hls_core_laws::done::Done;
@@ -25,6 +26,8 @@ pub struct IngestState {
     pub init: Option<Init>,
     /// How many parts were accepted.
     pub counts: IngestCounts,
+    /// The end in ticks of the last unit that was recorded of it, if units are mended.
+    pub end: Option<u64>,
     /// The keeper's acts for it.
     pub acts: ActLog,
 }
@@ -41,12 +44,16 @@ impl IngestState {
                 inits: 0,
                 units: 0,
                 repeats: 0,
+                mended: 0,
+                filled: 0,
+                dropped: 0,
             },
+            end: None,
         }
     }
 }
 
-fn with_init(mut counts: IngestCounts, done: Done) -> IngestCounts
+pub(crate) fn with_init(mut counts: IngestCounts, done: Done) -> IngestCounts
     ensures { result ≡ after_init done counts }
 {
     match done {
@@ -67,7 +74,7 @@ fn with_unit(mut counts: IngestCounts, done: Done) -> IngestCounts
 }
 
 /// The fault that reports a refused event.
-fn into_feed_fault(refusal: Refusal) -> FeedFault
+pub(crate) fn into_feed_fault(refusal: Refusal) -> FeedFault
     ensures { result ≡ feed_fault_of refusal }
 {
     match refusal {
@@ -79,33 +86,34 @@ fn into_feed_fault(refusal: Refusal) -> FeedFault
 /// Submits the parts of a rendition's encoder to a channel, by a keeper of this type.
 #[derive(Drop)]
 pub struct IngestSink<K> {
-    /// The rendition.
-    pub rendition: usize,
+    /// The rendition, and how far its units are mended.
+    pub encoder: IngestTarget,
     of: PhantomData<K>,
 }
 
 impl<K: Keeper> IngestSink<K> {
     /// A sink for the parts of a rendition's encoder.
-    pub fn new(rendition: usize) -> IngestSink<K>
-        ensures { result.rendition ≡ rendition }
+    pub fn new(encoder: IngestTarget) -> IngestSink<K>
+        ensures { result.encoder ≡ encoder }
     {
         IngestSink {
-            rendition,
+            encoder,
             of: PhantomData,
         }
     }
 
     /// Submits an init section.
-    fn take_init(
+    pub(crate) fn take_init(
         &self,
         taken: &mut IngestState,
         keeper: &mut K,
         bytes: Bytes,
     ) -> Result<(), FeedFault>
-        requires usable { IsUsable self.now.rendition (K.known keeper.old) taken.old.init }
-        ensures usable { IsUsable self.now.rendition (K.known keeper.new) taken.new.init }
+        requires usable { IsUsable self.now.encoder.rendition (K.known keeper.old) taken.old.init }
+        ensures usable { IsUsable self.now.encoder.rendition (K.known keeper.new) taken.new.init }
         ensures act_steps { ActsExtend K.other_actors (K.known keeper.old) taken.old.acts (K.known keeper.new) taken.new.acts }
-        ensures yields { HandlesPart self.now.rendition (progress_of taken.old) (Part.Init bytes) (progress_of taken.new) result }
+        ensures yields { HandlesPart self.now.encoder.rendition (progress_of taken.old) (Part.Init bytes) (progress_of taken.new) result }
+        ensures end { taken.new.end ≡ taken.old.end }
     {
         let init = match read_init(keeper.alloc(), &bytes) {
             Ok(init) => init,
@@ -113,7 +121,7 @@ impl<K: Keeper> IngestSink<K> {
             Err(fault) => return Err(FeedFault::Refused(StreamFault::Media(fault))),
         };
         let event = Event::Begin {
-            rendition: self.rendition,
+            rendition: self.encoder.rendition,
             init,
             bytes,
         };
@@ -127,11 +135,12 @@ impl<K: Keeper> IngestSink<K> {
     }
 
     /// Finds the rendition's init section, by a look unless it is known already.
-    fn find_init(&self, taken: &mut IngestState, keeper: &mut K) -> Result<(), FeedFault>
-        requires usable { IsUsable self.now.rendition (K.known keeper.old) taken.old.init }
-        ensures usable { IsUsable self.now.rendition (K.known keeper.new) taken.new.init }
+    pub(crate) fn find_init(&self, taken: &mut IngestState, keeper: &mut K) -> Result<(), FeedFault>
+        requires usable { IsUsable self.now.encoder.rendition (K.known keeper.old) taken.old.init }
+        ensures usable { IsUsable self.now.encoder.rendition (K.known keeper.new) taken.new.init }
         ensures act_steps { ActsExtend K.other_actors (K.known keeper.old) taken.old.acts (K.known keeper.new) taken.new.acts }
-        ensures finds { FindsInitOrFails self.now.rendition (progress_of taken.old) (progress_of taken.new) result }
+        ensures finds { FindsInitOrFails self.now.encoder.rendition (progress_of taken.old) (progress_of taken.new) result }
+        ensures end { taken.new.end ≡ taken.old.end }
     {
         if taken.init.is_some() {
             return Ok(());
@@ -139,7 +148,7 @@ impl<K: Keeper> IngestSink<K> {
         let Ok(state) = look(keeper, &mut taken.acts) else {
             return Err(FeedFault::Memory);
         };
-        let Some(recording) = state.recording(self.rendition) else {
+        let Some(recording) = state.recording(self.encoder.rendition) else {
             return Err(FeedFault::Refused(StreamFault::Core(Refusal::NoInit)));
         };
         let Ok(init) = recording.init().share() else {
@@ -156,10 +165,10 @@ impl<K: Keeper> IngestSink<K> {
         keeper: &mut K,
         bytes: Bytes,
     ) -> Result<(), FeedFault>
-        requires usable { IsUsable self.now.rendition (K.known keeper.old) taken.old.init }
-        ensures usable { IsUsable self.now.rendition (K.known keeper.new) taken.new.init }
+        requires usable { IsUsable self.now.encoder.rendition (K.known keeper.old) taken.old.init }
+        ensures usable { IsUsable self.now.encoder.rendition (K.known keeper.new) taken.new.init }
         ensures act_steps { ActsExtend K.other_actors (K.known keeper.old) taken.old.acts (K.known keeper.new) taken.new.acts }
-        ensures yields { HandlesPart self.now.rendition (progress_of taken.old) (Part.Unit bytes) (progress_of taken.new) result }
+        ensures yields { HandlesPart self.now.encoder.rendition (progress_of taken.old) (Part.Unit bytes) (progress_of taken.new) result }
     {
         self.find_init(taken, keeper)?;
         let Some(init) = &taken.init else {
@@ -170,7 +179,7 @@ impl<K: Keeper> IngestSink<K> {
             Err(fault) => return Err(FeedFault::Refused(StreamFault::Media(fault))),
         };
         let event = Event::Accept {
-            rendition: self.rendition,
+            rendition: self.encoder.rendition,
             facts,
             bytes,
         };
@@ -185,7 +194,7 @@ impl<K: Keeper> IngestSink<K> {
 }
 
 impl<K: Keeper> PartSink for IngestSink<K> {
-    ghost use Rattle.hls_api.{proofs.Callers.{acted_none, acted_on}, specs.Ingest.Progress as ProgressOf};
+    ghost use Rattle.hls_api.{proofs.Callers.{acted_none, acted_on}, specs.Ingest.{IngestsPart, Progress as ProgressOf}};
 
     type StreamState = IngestState;
 
@@ -195,7 +204,7 @@ impl<K: Keeper> PartSink for IngestSink<K> {
 
     ghost progress = { λ taken keeper. progress_of taken };
 
-    ghost fits = { λ sink taken keeper. IsUsable sink.rendition (K.known keeper) taken.init };
+    ghost fits = { λ sink taken keeper. IsUsable sink.encoder.rendition (K.known keeper) taken.init };
 
     ghost changes = { λ taken keeper later now. ActsExtend K.other_actors (K.known keeper) taken.acts (K.known now) later.acts };
 
@@ -203,7 +212,7 @@ impl<K: Keeper> PartSink for IngestSink<K> {
 
     ghost changes_trans = { λ taken keeper later now last then. acted_on K.other_actors (K.known keeper) (K.known now) (K.known then) taken.acts later.acts last.acts };
 
-    ghost yields = { λ sink. HandlesPart sink.rendition };
+    ghost yields = { λ sink. IngestsPart sink.encoder };
 
     fn accept_part(
         &self,
@@ -211,9 +220,11 @@ impl<K: Keeper> PartSink for IngestSink<K> {
         keeper: &mut K,
         part: Part,
     ) -> Result<(), FeedFault> {
-        match part {
-            Part::Init(bytes) => self.take_init(taken, keeper, bytes),
-            Part::Unit(bytes) => self.take_unit(taken, keeper, bytes),
+        match (self.encoder.mending, part) {
+            (None, Part::Init(bytes)) => self.take_init(taken, keeper, bytes),
+            (None, Part::Unit(bytes)) => self.take_unit(taken, keeper, bytes),
+            (Some(_), Part::Init(bytes)) => self.mend_init(taken, keeper, bytes),
+            (Some(settings), Part::Unit(bytes)) => self.mend_unit(settings, taken, keeper, bytes),
         }
     }
 }

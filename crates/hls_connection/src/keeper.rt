@@ -15,6 +15,7 @@ use hls_core::snapshot::Snapshot;
 use hls_core_laws::done::Done;
 use hls_core_laws::event::Event;
 use hls_core_laws::refusal::Refusal;
+use hls_metrics::Measured;
 use hls_playlists::MediaUris;
 use std::alloc::{AllocError, Global};
 use std::sync::Arc;
@@ -80,4 +81,7 @@ pub trait Keeper {
     /// How many jobs there are.
     fn job_count(&self) -> usize
         ensures { HasCounted result };
+
+    /// Returns what the server around the channel measured. Nothing is claimed of the numbers.
+    fn measured(&self) -> Measured;
 }

@@ -15,6 +15,7 @@ pub mod ingest_sink;
 pub mod keeper;
 pub mod laws;
 mod machine;
+mod mending_sink;
 mod receive;
 mod request_context;
 mod respond;

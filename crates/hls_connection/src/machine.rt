@@ -15,6 +15,7 @@ use crate::steps::{cut_body_short, end_body, end_large_body, step_state};
 use crate::wait::step_waiting;
 use hls_api::ResponseBody;
 use hls_api::ingest::IngestStop;
+use hls_api::route::ServedChannel;
 use hls_http::{BodyEnd, InputBuffer, SessionEnd};
 use hls_io::SendBuffer;
 use http_server::Log;
@@ -38,7 +39,7 @@ pub(crate) struct ConnectionNotes {
 /// A connection without its input.
 #[derive(Drop)]
 pub(crate) struct ConnectionMachine {
-    pub renditions: usize,
+    pub channel: ServedChannel,
     pub state: ConnectionState,
     pub output: SendBuffer<ResponseBody>,
     /// Whether the input's end was read.
@@ -76,12 +77,12 @@ impl ConnectionNotes {
 }
 
 impl ConnectionMachine {
-    /// A connection to a channel of `renditions` renditions, between two requests.
-    pub fn new(renditions: usize, notes: ConnectionNotes) -> ConnectionMachine
-        ensures { result ≡ idle_machine renditions notes }
+    /// A connection to a channel, between two requests.
+    pub fn new(channel: ServedChannel, notes: ConnectionNotes) -> ConnectionMachine
+        ensures { result ≡ idle_machine channel notes }
     {
         ConnectionMachine {
-            renditions,
+            channel,
             state: ConnectionState::Head,
             output: SendBuffer::new(),
             ended: false,
@@ -111,7 +112,7 @@ impl ConnectionMachine {
             (history_of (trace_at self.new input.new.unread)) (R.remaining reader.old) (R.remaining reader.new)) }
         ensures holds { IsConsistentTrace (trace_at self.old input.old.unread) → IsConsistentTrace (trace_at self.new input.new.unread) }
         ensures state { self.new.state ≡ self.old.state }
-        ensures renditions { self.new.renditions ≡ self.old.renditions }
+        ensures channel { self.new.channel ≡ self.old.channel }
         ensures suits { (known : Knowledge) → IsSuitedTo known (trace_at self.old input.old.unread) → IsSuitedTo known (trace_at self.new input.new.unread) }
     {
         let before = input.unread().len();
@@ -178,7 +179,7 @@ impl ConnectionMachine {
             return self.apply(step);
         }
         let state = mem::replace(&mut self.state, ConnectionState::Head);
-        let step = step_state(state, self.renditions, input, self.ended, alloc, observer);
+        let step = step_state(state, self.channel, input, self.ended, alloc, observer);
         self.apply(step)
     }
 

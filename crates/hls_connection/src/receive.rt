@@ -4,7 +4,7 @@ ghost use Rattle.std.specs.Prelude.{◌≡◌, ◌<◌, ◌≤◌, ◌↔◌, Is
 ghost use Rattle.hls_http.specs.Bodies.{IsOpen};
 ghost use Rattle.hls_api.specs.Acts.{ActsExtend};
 ghost use Rattle.hls_connection.specs.Events.{ingest_event};
-ghost use Rattle.hls_connection.specs.WithinBody.{EndsTarget, HasRoom, IsForTarget, ReceivesFrom, SuitsTarget, TakesPiece, status_into, target_after_frame};
+ghost use Rattle.hls_connection.specs.WithinBody.{EndsTarget, HasRoom, IsForTarget, ReceivesFrom, SuitsTarget, TakesPiece, is_mended_into, status_into, target_after_frame};
 ghost use Rattle.hls_connection.specs.declared.receive.BodyProgress.TheVariants as progresses;
 
 use crate::events::{IngestReport, SessionEvent};
@@ -12,7 +12,7 @@ use crate::ingest_sink::{IngestSink, IngestState};
 use crate::keeper::Keeper;
 use crate::request_context::RequestContext;
 use hls_api::ingest::IngestStop;
-use hls_api::route::Route;
+use hls_api::route::{IngestTarget, Route};
 use hls_boxes::UnitReader;
 use hls_core::{finish_stream, ingest_piece};
 use hls_event_loop::ConnectionStage;
@@ -27,9 +27,9 @@ pub(crate) enum BodyTarget {
     Nothing {
         room: u64,
     },
-    /// It is an encoder's, for this rendition; the reader holds what was received of the next part.
+    /// It is this encoder's; the reader holds what was received of the next part.
     Encoder {
-        rendition: usize,
+        encoder: IngestTarget,
         reader: UnitReader,
     },
 }
@@ -71,13 +71,23 @@ impl BodyTarget {
         ensures act_steps { ActsExtend K.other_actors (K.known keeper.old) taken.old.acts (K.known keeper.new) taken.new.acts }
         ensures takes { TakesPiece self.old taken.old piece.now self.new taken.new result }
     {
-        let BodyTarget::Encoder { rendition, reader } = self else {
+        let BodyTarget::Encoder { encoder, reader } = self else {
             return Ok(());
         };
-        let sink: IngestSink<K> = IngestSink::new(*rendition);
+        let sink: IngestSink<K> = IngestSink::new(*encoder);
         match ingest_piece(reader, &sink, taken, keeper, piece) {
             Ok(()) => Ok(()),
             Err(fault) => Err(IngestStop::from(fault)),
+        }
+    }
+
+    /// Whether it is an encoder's whose units are mended.
+    pub fn is_mended(&self) -> bool
+        ensures { result ≡ is_mended_into self.now }
+    {
+        match self {
+            BodyTarget::Nothing { .. } => false,
+            BodyTarget::Encoder { encoder, .. } => encoder.mending.is_some(),
         }
     }
 
@@ -162,11 +172,12 @@ impl ReceivingBody {
     pub fn ingest_event(&self, end: Result<(), IngestStop>) -> Option<SessionEvent>
         ensures { result ≡ ingest_event self.now end }
     {
-        let BodyTarget::Encoder { rendition, .. } = &self.target else {
+        let BodyTarget::Encoder { encoder, .. } = &self.target else {
             return None;
         };
         Some(SessionEvent::Ingested(IngestReport {
-            rendition: *rendition,
+            rendition: encoder.rendition,
+            is_mended: encoder.mending.is_some(),
             counts: self.taken.counts,
             result: end,
         }))

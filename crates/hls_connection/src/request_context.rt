@@ -1,5 +1,6 @@
 //! What is kept of a request's head while its body is read.
 
+ghost use Rattle.hls_api.specs.declared.route.ServedChannel.{ServedChannel};
 ghost use Rattle.std.specs.{Prelude.{◌≡◌, ◌≤◌, ℕ, Some, IfOk, length}, Option.is_some};
 ghost use Rattle.httparse.specs.{Grammar.RequestHead, Spans.span_bytes};
 ghost use Rattle.hls_http.specs.{declared.framing.BodyFraming.BodyFraming, Actions.announced_len, Actions.action_by};
@@ -11,7 +12,7 @@ ghost use Rattle.hls_api.specs.Routes as spec;
 use hls_api::catchup_query::CatchupQuery;
 use hls_api::parse_route::{parse_route, takes_ingest};
 use hls_api::read_query;
-use hls_api::route::Route;
+use hls_api::route::{Route, ServedChannel};
 use hls_http::{ParsedHead, RequestAction, decide_action, split_target};
 use std::alloc::{AllocError, Global};
 
@@ -46,17 +47,17 @@ fn read_catchup_query(alloc: Global, route: Option<Route>, text: &[u8]) -> Query
     }
 }
 
-/// Returns what is kept of a head, in a channel of `renditions` renditions.
+/// Returns what is kept of a head, in a channel.
 pub fn make_context(
     alloc: Global,
     text: &[u8],
-    renditions: usize,
+    channel: ServedChannel,
     head: ParsedHead,
 ) -> RequestContext
-    ensures { (h : RequestHead) → IsHead h head text.now → IsContextOf renditions h result }
+    ensures { (h : RequestHead) → IsHead h head text.now → IsContextOf channel h result }
 {
     let (path, query) = split_target(request_target(text, &head));
-    let route = parse_route(renditions, path);
+    let route = parse_route(channel, path);
     RequestContext {
         head,
         route,
@@ -66,7 +67,7 @@ pub fn make_context(
 
 /// Decides what is done with a request.
 pub fn action_for(context: &RequestContext) -> RequestAction
-    ensures action { (count : ℕ) (h : RequestHead) → IsContextOf count h context.now → result ≡ action_for h (params_of count h) }
+    ensures action { (channel : ServedChannel) (h : RequestHead) → IsContextOf channel h context.now → result ≡ action_for h (params_of channel h) }
     ensures by { result ≡ action_by context.now.head.body (is_some context.now.route) (spec.takes_ingest context.now.route context.now.head.method) }
     ensures fits { (body : BodyFraming) → result ≡ RequestAction.Discard body → announced_len body ≤ 65536 }
 {

@@ -1,5 +1,6 @@
 //! Sends responses: the bytes, and the connection's state after them.
 
+ghost use Rattle.hls_api.specs.declared.route.ServedChannel.{ServedChannel};
 ghost use Rattle.std.specs.Prelude.{◌≡◌, ℕ, List, [], true, false};
 ghost use Rattle.httparse.specs.Grammar.{RequestHead};
 ghost use Rattle.hls_http.specs.{declared.request_action.RequestAction.RequestAction as ActionOf, ResponseText.out_of_memory_response, Actions.sends_close as closes_by};
@@ -90,7 +91,7 @@ pub(crate) fn respond<O: Observer>(
     early: bool,
     acts: ActLog,
 ) -> Transition
-    ensures responds { (count : ℕ) (h : RequestHead) (first : List ℕ) → IsContextOf count h context.now
+    ensures responds { (channel : ServedChannel) (h : RequestHead) (first : List ℕ) → IsContextOf channel h context.now
         → RespondsWith (IsDueFor first response (closes_by h early) (is_for_head h)) first acts result }
     ensures sends { SendsResponse acts result }
 {
@@ -109,7 +110,7 @@ pub(crate) fn refuse_request<O: Observer>(
     early: bool,
     acts: ActLog,
 ) -> Transition
-    ensures responds { (count : ℕ) (h : RequestHead) (action : ActionOf) → IsContextOf count h context.now
+    ensures responds { (channel : ServedChannel) (h : RequestHead) (action : ActionOf) → IsContextOf channel h context.now
         → RespondsWith (IsDue h action (replies.fault_answer fault) early) (continue_prefix h action) acts result }
     ensures sends { SendsResponse acts result }
 {

@@ -8,6 +8,7 @@ ghost use Rattle.hls_connection.specs.Traces.{IsSuitedTo, WantsMore, trace_at};
 use crate::events::{Observer, report_some};
 use crate::keeper::Keeper;
 use crate::machine::{ConnectionMachine, ConnectionNotes};
+use hls_api::route::ServedChannel;
 use hls_http::{ReadOutcome, Session, SessionEnd, write_whole};
 use std::io::{Read, Write};
 use std::sync::Wait;
@@ -82,7 +83,7 @@ fn step_session<K: Keeper, O: Observer, R: Read, W: Write>(
 /// Serves the requests of a session, each up to its response before the next is read, until the input ends, a response says
 /// `Connection: close`, or the reader or the writer fails. May wait for its keeper.
 ///
-/// The memory of a request is freed after its response. If there is none, the fixed response is written and the session ends. The
+/// Units aren't mended. The memory of a request is freed after its response. If there is none, the fixed response is written and the session ends. The
 /// runtime is for a session that never ends.
 pub fn session_on<K: Keeper, O: Observer, T: Wait, R: Read, W: Write>(
     rt: &T,
@@ -93,7 +94,11 @@ pub fn session_on<K: Keeper, O: Observer, T: Wait, R: Read, W: Write>(
     ensures session { RunsSession K.other_actors R.remaining W.contents session.old session.new (K.known keeper.old) (K.known keeper.new) result }
     ensures counts { SessionCounts session.old session.new result }
 {
-    let mut machine = ConnectionMachine::new(keeper.rendition_count(), ConnectionNotes::new());
+    let channel = ServedChannel {
+        renditions: keeper.rendition_count(),
+        mending: None,
+    };
+    let mut machine = ConnectionMachine::new(channel, ConnectionNotes::new());
     machine.note_read(&session.source.input, 0, false);
     for _ in rt.forever() {
         if let Some(end) = step_session(&mut machine, session, keeper, observer) {

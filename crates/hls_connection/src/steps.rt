@@ -1,5 +1,6 @@
 //! The steps of a connection, from one state to the next. They make no system call, and wait for the keeper alone.
 
+ghost use Rattle.hls_api.specs.declared.route.ServedChannel.{ServedChannel};
 ghost use Rattle.std.specs.Prelude.{◌≡◌, ◌≢◌, ℕ, List, [], ◌<◌, ◌≤◌, Bool, Ok, None, true, false};
 ghost use Rattle.httparse.specs.Grammar.{RequestHead};
 ghost use Rattle.hls_http.specs.Heads.{ReadsLimitedHead};
@@ -20,7 +21,7 @@ use crate::respond::{refuse_head, refuse_request, respond};
 use crate::state::{ConnectionState, Transition, WaitingResponse, WritingResponse};
 use crate::wait::awaited_job;
 use hls_api::ingest::IngestStop;
-use hls_api::route::Route;
+use hls_api::route::{Route, ServedChannel};
 use hls_api::{ingest_refused_response, ingested_response};
 use hls_boxes::UnitReader;
 use hls_http::limits::MOST_DISCARDED;
@@ -59,7 +60,7 @@ fn begin_body(
     action: RequestAction,
 ) -> Transition
     ensures is { BeginsBody context route body target result }
-    ensures first { (count : ℕ) (h : RequestHead) → IsContextOf count h context → result.output ≡ continue_prefix h action }
+    ensures first { (channel : ServedChannel) (h : RequestHead) → IsContextOf channel h context → result.output ≡ continue_prefix h action }
 {
     let output = if sends_continue(&context.head, action) {
         SendBuffer::from_static(continue_text())
@@ -83,8 +84,8 @@ fn begin_body(
 
 /// Begins a request after its head.
 fn start_request<O: Observer>(alloc: Global, observer: &O, context: RequestContext) -> Transition
-    ensures consistent { (count : ℕ) (ended : Bool) (before unread : List ℕ) (h : RequestHead) → ReadsLimitedHead before h unread → IsContextOf count h context
-        → StepStaysConsistent count ended states.Head before result unread }
+    ensures consistent { (channel : ServedChannel) (ended : Bool) (before unread : List ℕ) (h : RequestHead) → ReadsLimitedHead before h unread → IsContextOf channel h context
+        → StepStaysConsistent channel ended states.Head before result unread }
     ensures asks { HasNoActs states.Head result }
     ensures continues { result.more ≡ true }
     ensures few { steps_of result.state ≤ 65539 }
@@ -95,10 +96,10 @@ fn start_request<O: Observer>(alloc: Global, observer: &O, context: RequestConte
             refuse_request(alloc, observer, &context, fault, closing, ActLog::new())
         }
         RequestAction::Ingest(body) => match context.route {
-            Some(Route::Ingest(rendition)) => {
+            Some(Route::Ingest(encoder)) => {
                 let reader = UnitReader::new(alloc);
-                let target = BodyTarget::Encoder { rendition, reader };
-                begin_body(context, Route::Ingest(rendition), body, target, action)
+                let target = BodyTarget::Encoder { encoder, reader };
+                begin_body(context, Route::Ingest(encoder), body, target, action)
             }
             _ => unreachable!(),
         },
@@ -114,13 +115,13 @@ fn start_request<O: Observer>(alloc: Global, observer: &O, context: RequestConte
 
 /// Looks for the next head.
 fn step_head<O: Observer>(
-    renditions: usize,
+    channel: ServedChannel,
     input: &mut InputBuffer,
     ended: bool,
     alloc: Global,
     observer: &O,
 ) -> Transition
-    ensures consistent { StepStaysConsistent renditions ended states.Head input.old.unread result input.new.unread }
+    ensures consistent { StepStaysConsistent channel ended states.Head input.old.unread result input.new.unread }
     ensures room { input.new.room ≡ input.old.room }
     ensures asks { HasNoActs states.Head result }
     ensures turns { ReportsProgress ended states.Head input.old.unread result.state input.new.unread result.more }
@@ -128,7 +129,7 @@ fn step_head<O: Observer>(
     match find_head(input.unread()) {
         Ok((head, len)) => {
             input.consume(len);
-            let context = make_context(alloc, input.last_taken(), renditions, head);
+            let context = make_context(alloc, input.last_taken(), channel, head);
             observer.report(&SessionEvent::HeadRead {
                 method: context.head.method,
                 route: context.route,
@@ -154,8 +155,8 @@ fn step_handle<K: Keeper, O: Observer>(
     observer: &O,
 ) -> Transition
     requires { IsDiscardable route context }
-    ensures handles { acts ≡ [] → (count : ℕ) (stream first unread : List ℕ) (last : BodyFraming) → IsDiscarded count stream first context route last unread (Ok tt)
-        → IsHandled count stream first unread result }
+    ensures handles { acts ≡ [] → (channel : ServedChannel) (stream first unread : List ℕ) (last : BodyFraming) → IsDiscarded channel stream first context route last unread (Ok tt)
+        → IsHandled channel stream first unread result }
     ensures act_steps { ActsExtend K.other_actors (K.known keeper.old) acts (K.known keeper.new) (acts_of_step result) }
     ensures proceeds { Proceeds now 65538 result }
 {
@@ -194,8 +195,8 @@ pub(crate) fn end_body<K: Keeper, O: Observer>(
     observer: &O,
 ) -> Transition
     requires { IsForTarget receiving.old.target receiving.old.route receiving.old.context }
-    ensures consistent { (count : ℕ) (ended : Bool) (old : ReceivingBody) (before unread : List ℕ) → ReceivesFrom old before receiving.old unread (progresses.Done end)
-        → StepStaysConsistent count ended (states.Receive old) before result unread }
+    ensures consistent { (channel : ServedChannel) (ended : Bool) (old : ReceivingBody) (before unread : List ℕ) → ReceivesFrom old before receiving.old unread (progresses.Done end)
+        → StepStaysConsistent channel ended (states.Receive old) before result unread }
     ensures act_steps { ActsExtend K.other_actors (K.known keeper.old) receiving.old.taken.acts (K.known keeper.new) (acts_of_step result) }
     ensures proceeds { Proceeds now 65538 result }
 {
@@ -208,13 +209,14 @@ pub(crate) fn end_body<K: Keeper, O: Observer>(
             BodyTarget::Nothing { .. } => {
                 step_handle(*context, receiving.route, acts, keeper, now, observer)
             }
-            BodyTarget::Encoder { .. } => {
-                let response = ingested_response(alloc, counts);
+            BodyTarget::Encoder { encoder, .. } => {
+                let response = ingested_response(alloc, encoder.mending.is_some(), counts);
                 respond(alloc, observer, context, response, false, acts)
             }
         },
         Err(IngestStop::Refused(fault)) => {
-            let response = ingest_refused_response(alloc, fault, counts);
+            let is_mended = receiving.target.is_mended();
+            let response = ingest_refused_response(alloc, fault, is_mended, counts);
             respond(
                 alloc,
                 observer,
@@ -237,8 +239,8 @@ pub(crate) fn end_large_body<O: Observer>(
     receiving: &mut ReceivingBody,
     observer: &O,
 ) -> Transition
-    ensures consistent { (count : ℕ) (ended : Bool) (old : ReceivingBody) (before unread : List ℕ) → ReceivesFrom old before receiving.old unread progresses.TooLarge
-        → StepStaysConsistent count ended (states.Receive old) before result unread }
+    ensures consistent { (channel : ServedChannel) (ended : Bool) (old : ReceivingBody) (before unread : List ℕ) → ReceivesFrom old before receiving.old unread progresses.TooLarge
+        → StepStaysConsistent channel ended (states.Receive old) before result unread }
     ensures acts { acts_of_step result ≡ receiving.old.taken.acts }
     ensures proceeds { Proceeds None 1 result }
 {
@@ -271,7 +273,7 @@ pub(crate) fn cut_body_short<O: Observer>(receiving: &mut ReceivingBody, observe
 
 /// Makes one more part of a response. It is sent if none is left, if there is no memory for one, or if enough were made.
 fn step_writing<O: Observer>(writing: WritingResponse, alloc: Global, observer: &O) -> Transition
-    ensures consistent { (count : ℕ) (ended : Bool) (unread : List ℕ) → StepStaysConsistent count ended (states.Write writing) unread result unread }
+    ensures consistent { (channel : ServedChannel) (ended : Bool) (unread : List ℕ) → StepStaysConsistent channel ended (states.Write writing) unread result unread }
     ensures asks { HasNoActs (states.Write writing) result }
     ensures continues { result.more ≡ true }
     ensures lowers { steps_of result.state < steps_of (states.Write writing) }
@@ -304,7 +306,7 @@ fn step_writing<O: Observer>(writing: WritingResponse, alloc: Global, observer: 
 /// One step from a state in which no body is received and no response waits, where nothing waits to be sent.
 pub(crate) fn step_state<O: Observer>(
     state: ConnectionState,
-    renditions: usize,
+    channel: ServedChannel,
     input: &mut InputBuffer,
     ended: bool,
     alloc: Global,
@@ -312,13 +314,13 @@ pub(crate) fn step_state<O: Observer>(
 ) -> Transition
     requires receives { (receiving : ReceivingBody) → state ≢ states.Receive receiving }
     requires waits { (waiting : WaitingResponse) → state ≢ states.Wait waiting }
-    ensures consistent { StepStaysConsistent renditions ended state input.old.unread result input.new.unread }
+    ensures consistent { StepStaysConsistent channel ended state input.old.unread result input.new.unread }
     ensures room { input.new.room ≡ input.old.room }
     ensures asks { HasNoActs state result }
     ensures turns { ReportsProgress ended state input.old.unread result.state input.new.unread result.more }
 {
     match state {
-        ConnectionState::Head => step_head(renditions, input, ended, alloc, observer),
+        ConnectionState::Head => step_head(channel, input, ended, alloc, observer),
         ConnectionState::Receive(_) | ConnectionState::Wait(_) => unreachable!(),
         ConnectionState::Write(writing) => step_writing(writing, alloc, observer),
         ConnectionState::Ended(end) => {

@@ -1,5 +1,6 @@
 //! Responses that wait for a job to be finished, which a client asks for by a Prefer field (RFC 7240 4.3).
 
+ghost use Rattle.hls_api.specs.declared.route.ServedChannel.{ServedChannel};
 ghost use Rattle.std.specs.Prelude.{◌≡◌, ◌&&◌, ℕ, List, Bool, None, IfSome};
 ghost use Rattle.hls_connection.specs.States.{SendsResponse, StepStaysConsistent};
 ghost use Rattle.hls_connection.specs.Waits.{AnswersJob, awaited_by, deadline_by, has_time, is_unfinished, may_wait};
@@ -89,7 +90,7 @@ pub(crate) fn step_waiting<K: Keeper, O: Observer>(
 ) -> Option<Transition>
     ensures answers { AnswersJob now waiting.old result }
     ensures same { result ≡ None → waiting.new ≡ waiting.old }
-    ensures consistent { IfSome result (λ step. (count : ℕ) (ended : Bool) (unread : List ℕ) → StepStaysConsistent count ended (states.Wait waiting.old) unread step unread) }
+    ensures consistent { IfSome result (λ step. (channel : ServedChannel) (ended : Bool) (unread : List ℕ) → StepStaysConsistent channel ended (states.Wait waiting.old) unread step unread) }
     ensures sends { IfSome result (SendsResponse waiting.old.acts) }
 {
     let found = keeper.get_job(waiting.id);

@@ -14,6 +14,7 @@ use hls_connection::shared_channel::SharedChannel;
 use hls_fakes::PageWriter;
 use hls_http::{Session, SessionEnd};
 use hls_jobs::{Gate, Jobs, work_loop};
+use hls_metrics::Measurements;
 use hls_turn::Turn;
 use std::alloc::Global;
 use std::mem::swap;
@@ -79,7 +80,14 @@ fn sent_to<T: Wait>(rt: &T, alloc: Global, jobs: &Jobs) -> Option<(SessionOutcom
     let Ok((turn, mut passes)) = Turn::new(rt, alloc, first_snapshot(alloc, None)?, 2) else {
         return None;
     };
-    let channel = SharedChannel { turn: &turn, jobs };
+    let Ok(measurements) = Measurements::new(alloc) else {
+        return None;
+    };
+    let channel = SharedChannel {
+        turn: &turn,
+        jobs,
+        measurements: &measurements,
+    };
     let Some(second) = passes.pop() else {
         return None;
     };

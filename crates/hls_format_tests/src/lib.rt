@@ -1,5 +1,5 @@
-//! Tests of public calls that need no channel, under allocation failures: boxes, init sections and units, codec strings, playlists, certificates,
-//! persistent lists, HTTP heads, settings and commands.
+//! Tests of public calls that need no channel, under allocation failures: boxes, init sections and units, mending, codec strings,
+//! playlists, certificates, persistent lists, HTTP heads, settings and commands.
 //!
 //! Each call returns its only answer, or reports that it is out of memory; its arguments are then unchanged, and the same call again
 //! returns the answer. The tests are separate from the crates that they call, so that those aren't verified again for them.
@@ -18,6 +18,8 @@ mod codec_strings;
 mod heads;
 #[cfg(test)]
 mod lines;
+#[cfg(test)]
+mod mending;
 #[cfg(test)]
 mod parts;
 #[cfg(test)]

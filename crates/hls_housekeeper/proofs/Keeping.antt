@@ -1,28 +1,33 @@
 -- The housekeeper's actions on its pass, in sequence.
-use Rattle.std.proofs.Common.{ℕ, List, [], ◌∷◌, ◌++◌, inl, inr, refl, sym, subst}
+use Rattle.std.proofs.Common.{ℕ, Option, List, [], ◌∷◌, ◌++◌, inl, inr, refl, sym, subst}
 use Rattle.hls_core_laws.specs.PassView.{PassView, MaySeeLater}
-use Rattle.hls_housekeeper.specs.Housekeeping.{SubmitsUpkeep, RunsUpkeepThrough, RunsUpkeep}
+use Rattle.hls_mend_laws.specs.declared.settings.MendSettings.{MendSettings}
+use Rattle.hls_housekeeper.specs.Housekeeping.{SubmitsFiller, SubmitsUpkeep, RunsUpkeepThrough, RunsUpkeep}
 
-pub kept_still : (window keep : ℕ) (a : PassView) → RunsUpkeep window keep a a
+pub kept_still : (m : Option MendSettings) (window keep : ℕ) (a : PassView) → RunsUpkeep m window keep a a
 unfolding RunsUpkeepThrough
-kept_still window keep a = record { through = []; steps = refl }
+kept_still m window keep a = record { through = []; steps = refl }
 
-pub kept_looking : (window keep : ℕ) (a b c : PassView) → RunsUpkeep window keep a b → MaySeeLater b c → RunsUpkeep window keep a c
+pub kept_looking : (m : Option MendSettings) (window keep : ℕ) (a b c : PassView) → RunsUpkeep m window keep a b → MaySeeLater b c → RunsUpkeep m window keep a c
 unfolding RunsUpkeepThrough
-kept_looking window keep a b c kept looked = record { through = b ∷ kept.through; steps = (kept.steps, inl looked) }
+kept_looking m window keep a b c kept looked = record { through = b ∷ kept.through; steps = (kept.steps, inl looked) }
 
-pub kept_bringing : (window keep : ℕ) (a b c : PassView) → RunsUpkeep window keep a b → SubmitsUpkeep window keep b c → RunsUpkeep window keep a c
+pub kept_bringing : (m : Option MendSettings) (window keep : ℕ) (a b c : PassView) → RunsUpkeep m window keep a b → SubmitsUpkeep window keep b c → RunsUpkeep m window keep a c
 unfolding RunsUpkeepThrough
-kept_bringing window keep a b c kept submits = record { through = b ∷ kept.through; steps = (kept.steps, inr submits) }
+kept_bringing m window keep a b c kept submits = record { through = b ∷ kept.through; steps = (kept.steps, inr (inl submits)) }
 
-through_further : (window keep : ℕ) (a b c : PassView) (first then : List PassView) → RunsUpkeepThrough window keep a first b → RunsUpkeepThrough window keep b then c
-    → RunsUpkeepThrough window keep a (then ++ first) c
+pub kept_filling : (m : Option MendSettings) (window keep : ℕ) (a b c : PassView) → RunsUpkeep m window keep a b → SubmitsFiller m b c → RunsUpkeep m window keep a c
 unfolding RunsUpkeepThrough
-through_further window keep a b c first [] before after = subst (λ (k : PassView). RunsUpkeepThrough window keep a first k) (sym after) before
-through_further window keep a b c first (last ∷ then) before after = (through_further window keep a b last first then before after.0, after.1)
+kept_filling m window keep a b c kept submits = record { through = b ∷ kept.through; steps = (kept.steps, inr (inr submits)) }
 
-pub kept_further : (window keep : ℕ) (a b c : PassView) → RunsUpkeep window keep a b → RunsUpkeep window keep b c → RunsUpkeep window keep a c
-kept_further window keep a b c kept further = record {
+through_further : (m : Option MendSettings) (window keep : ℕ) (a b c : PassView) (first then : List PassView) → RunsUpkeepThrough m window keep a first b
+    → RunsUpkeepThrough m window keep b then c → RunsUpkeepThrough m window keep a (then ++ first) c
+unfolding RunsUpkeepThrough
+through_further m window keep a b c first [] before after = subst (λ (k : PassView). RunsUpkeepThrough m window keep a first k) (sym after) before
+through_further m window keep a b c first (last ∷ then) before after = (through_further m window keep a b last first then before after.0, after.1)
+
+pub kept_further : (m : Option MendSettings) (window keep : ℕ) (a b c : PassView) → RunsUpkeep m window keep a b → RunsUpkeep m window keep b c → RunsUpkeep m window keep a c
+kept_further m window keep a b c kept further = record {
   through = further.through ++ kept.through;
-  steps = through_further window keep a b c kept.through further.through kept.steps further.steps;
+  steps = through_further m window keep a b c kept.through further.through kept.steps further.steps;
 }

@@ -4,4 +4,6 @@ pub mod Housekeeping
 pub mod Lags
 pub mod Backoff
 pub mod Memory
+pub mod MemoryNeeds
 pub mod Coverage
+pub mod Away

@@ -1,16 +1,20 @@
 //! The housekeeper: keeps the channel to its window, and warns of limits that come near.
 
-ghost use Rattle.std.specs.Prelude.{◌≡◌, IfOk, Some};
+ghost use Rattle.std.specs.Prelude.{◌≡◌, ℕ, Option, IfOk, None, Some};
 ghost use Rattle.hls_core.specs.Upkeeps.{IsUpkeepOf};
 ghost use Rattle.hls_core_laws.specs.PassView.{MaySeeLater};
+ghost use Rattle.hls_mend_laws.specs.declared.settings.MendSettings.{MendSettings};
 ghost use Rattle.hls_housekeeper.specs.Housekeeping.{SubmitsUpkeep, EndsRound, RunsUpkeep};
 
 use crate::alert::is_alert_due;
-use crate::monitor::Monitor;
+use crate::encoder_watch::{EncoderWatch, WatchClock};
+use crate::filling::{FillTarget, fill_renditions};
+use crate::monitor::{ChannelStatus, Monitor};
 use crate::operator_log::{OperatorLog, log_refused_upkeep};
 use crate::progress::channel_time;
 use crate::server_status::ServerStatus;
 use crate::trim_backoff::TrimBackoff;
+use hls_core::snapshot::Snapshot;
 use hls_core::upkeep::upkeep;
 use hls_core_laws::event::Event;
 use hls_core_laws::refusal::Refusal;
@@ -93,7 +97,7 @@ fn run_upkeep<R: Wait>(
 ) -> Result<UpkeepOutcome, Refusal>
     requires { pass.old.turn ≡ turn.now }
     ensures ours { pass.new.turn ≡ turn.now }
-    ensures keeps { RunsUpkeep timing.window timing.keep pass.old.known pass.new.known }
+    ensures keeps { (mending : Option MendSettings) → RunsUpkeep mending timing.window timing.keep pass.old.known pass.new.known }
     ensures ends { IfOk result (EndsRound resting timing.window timing.keep pass.new.known.seen) }
 {
     let mut trimmed = false;
@@ -183,8 +187,73 @@ fn plan_next_round<E: Eprint>(
     }
 }
 
-/// Runs upkeep whenever it is notified, until the server has closed; retries by itself after an allocation failure. The only
-/// events that it submits are those that upkeep yields. Logs what the operator has to know of the channel. May wait.
+/// Fills the renditions that are away, if units are mended.
+fn run_filling<R: Wait>(
+    rt: &R,
+    alloc: Global,
+    turn: &Turn,
+    settings: &Settings,
+    watch: &mut EncoderWatch,
+    pass: &mut Pass,
+) -> Result<(), Refusal>
+    requires { pass.old.turn ≡ turn.now }
+    ensures ours { pass.new.turn ≡ turn.now }
+    ensures keeps { (window keep : ℕ) → RunsUpkeep settings.now.server.mending window keep pass.old.known pass.new.known }
+{
+    let Some(mending) = settings.server.mending else {
+        return Ok(());
+    };
+    let silent = watch.silent;
+    let target = FillTarget {
+        settings: mending,
+        silent: &silent,
+        rendition: 0,
+    };
+    fill_renditions(rt, alloc, turn, target, pass, &mut watch.fillers)
+}
+
+/// Watches the encoders, if units are mended.
+fn watch_encoders<E: Eprint, H: ServerStatus>(
+    log: &OperatorLog<'_, E>,
+    settings: &Settings,
+    snapshot: &Snapshot,
+    status: &H,
+    watch: &mut EncoderWatch,
+    now: u64,
+) {
+    if settings.server.mending.is_some() {
+        let clock = WatchClock {
+            now,
+            wait_ms: u64::from(settings.server.wait_s).saturating_mul(1000),
+        };
+        watch.update(log, settings.config.renditions(), snapshot, status, clock);
+    }
+}
+
+/// The pause after a round in which renditions were filled too. Where an allocation failed, the housekeeper runs again by itself.
+fn plan_after_filling<E: Eprint>(
+    log: &OperatorLog<'_, E>,
+    housekeeper: &mut Housekeeper,
+    filled: Result<(), Refusal>,
+    now: u64,
+    pause: NextRound,
+) -> NextRound {
+    let Err(refusal) = filled else {
+        return pause;
+    };
+    housekeeper.logged_at_ms = log_refusal(log, refusal, housekeeper.logged_at_ms, now);
+    if refusal == Refusal::Memory {
+        return NextRound {
+            length: RETRY_MS,
+            again: true,
+        };
+    }
+    pause
+}
+
+/// Runs upkeep whenever it is notified, until the server has closed, and fills the renditions that are away if units are mended; retries
+/// by itself after an allocation failure. The only events that it submits are those that upkeep yields, and fillers. Logs what the
+/// operator has to know of the channel. May wait.
 pub fn run_housekeeper<R: Wait + Clock + Eprint + Env, H: ServerStatus>(
     rt: &R,
     alloc: Global,
@@ -195,7 +264,7 @@ pub fn run_housekeeper<R: Wait + Clock + Eprint + Env, H: ServerStatus>(
 )
     requires { pass.old.turn ≡ turn.now }
     ensures ours { pass.new.turn ≡ turn.now }
-    ensures keeps { RunsUpkeep settings.now.server.timing.window settings.now.server.timing.keep pass.old.known pass.new.known }
+    ensures keeps { RunsUpkeep settings.now.server.mending settings.now.server.timing.window settings.now.server.timing.keep pass.old.known pass.new.known }
 {
     let log = OperatorLog::new(rt);
     let timing = settings.server.timing;
@@ -204,6 +273,7 @@ pub fn run_housekeeper<R: Wait + Clock + Eprint + Env, H: ServerStatus>(
         backoff: TrimBackoff::none(),
     };
     let mut monitor = Monitor::new(monotonic_ms(rt).max(1));
+    let mut watch = EncoderWatch::new();
     for _ in rt.forever() {
         turn.wait_told(rt);
         let now = monotonic_ms(rt).max(1);
@@ -211,12 +281,21 @@ pub fn run_housekeeper<R: Wait + Clock + Eprint + Env, H: ServerStatus>(
         if let Ok(snapshot) = turn.look(rt, alloc, pass) {
             time = channel_time(&snapshot);
             if monitor.is_due(now) {
-                monitor.inspect(&log, settings, &snapshot, status.job_count(rt), now);
+                let inspected = ChannelStatus {
+                    measurements: status.measurements(),
+                    settings,
+                    snapshot: &snapshot,
+                    jobs: status.job_count(rt),
+                };
+                monitor.inspect(&log, &inspected, now);
             }
+            watch_encoders(&log, settings, &snapshot, status, &mut watch, now);
         }
+        let filled = run_filling(rt, alloc, turn, settings, &mut watch, pass);
         let resting = housekeeper.backoff.is_active(now, time);
         let round = run_upkeep(rt, alloc, turn, timing, resting, pass);
         let pause = plan_next_round(&log, timing.keep, &mut housekeeper, round, now, time);
+        let pause = plan_after_filling(&log, &mut housekeeper, filled, now, pause);
         if pause.again {
             turn.tell(rt);
         }

@@ -1,7 +1,7 @@
 //! Warns before the first connection if the settings keep more media than fits in memory.
 
 ghost use Rattle.std.specs.Prelude.{◌≡◌, ◌≤◌, ◌^◌};
-ghost use Rattle.hls_housekeeper.specs.Memory.{media_bytes_needed};
+ghost use Rattle.hls_housekeeper.specs.Memory.{media_bytes_needed, retained_us};
 
 use crate::operator_log::OperatorLog;
 use crate::trim_backoff::backoff_ms;
@@ -19,20 +19,28 @@ const MEGABYTE: u64 = 1_000_000;
 /// The size of the buffer for one file of `/proc` or of a control group.
 const ROOM: usize = 4096;
 
-/// Returns how many bytes of media a bit rate yields over the kept time, the window, two target durations, and a backoff.
+/// Returns how long media are kept, in microseconds: the kept time, the window, two target durations, and a backoff.
+pub(crate) fn retained_us(timing: WindowSettings) -> u128
+    requires { timing.target ≤ 3600 }
+    ensures value { result ≡ retained_us timing }
+    ensures bound { result ≤ 2 ^ 66 }
+{
+    let ahead = timing.target * 2_000_000 + backoff_ms(timing.keep) * 1000;
+    u128::from(timing.keep) + u128::from(timing.window) + u128::from(ahead)
+}
+
+/// Returns how many bytes of media a bit rate yields over the time that media are kept.
 fn media_bytes_needed(bits: u64, timing: WindowSettings) -> u64
     requires bits { bits ≤ 2 ^ 48 }
     requires target { timing.target ≤ 3600 }
     ensures { result ≡ media_bytes_needed bits timing }
 {
-    let retained_us = u128::from(timing.keep) + u128::from(timing.window);
-    let ahead = timing.target * 2_000_000 + backoff_ms(timing.keep) * 1000;
-    let bytes = u128::from(bits) * (retained_us + u128::from(ahead)) / 8_000_000;
+    let bytes = u128::from(bits) * retained_us(timing) / 8_000_000;
     u64::try_from(bytes).unwrap_or(u64::MAX)
 }
 
 /// Returns the sum of the renditions' declared bit rates, in bits per second, capped at 2^48.
-fn bits_of(renditions: &[Rendition]) -> u64
+pub(crate) fn bits_of(renditions: &[Rendition]) -> u64
     ensures { result ≤ 2 ^ 48 }
 {
     let mut bits: u64 = 0;

@@ -20,6 +20,8 @@ use crate::warnings::{
 use hls_codecs::is_track_encrypted;
 use hls_core::snapshot::{LOG_LIMIT, Snapshot};
 use hls_core_laws::rendition::Rendition;
+use hls_metrics::Measurements;
+use hls_metrics::measurements::store;
 use hls_record::Recording;
 use hls_record::recording::RECORDING_LIMIT;
 use hls_settings::Settings;
@@ -30,6 +32,9 @@ const INSPECTION_MS: u64 = 1000;
 
 /// Half of the places for jobs.
 const HALF: usize = 32;
+
+/// A rendition that has no sync sample within this distance of a moment, in microseconds, was away then, which no tolerance mends.
+const AWAY_US: u64 = 1_000_000;
 
 /// What was logged, and the measurements for it.
 #[derive(Clone, Copy)]
@@ -44,15 +49,30 @@ pub struct Monitor {
     recordings: [Gauge; MOST_RENDITIONS],
     /// The renditions whose init section was inspected.
     inspected: [bool; MOST_RENDITIONS],
+    /// When the monitor was created, in milliseconds of the clock.
+    since: u64,
+    /// The number of the next live segment, and since when it is that, in milliseconds of the clock.
+    next_segment: u64,
+    still_since: u64,
 }
 
 /// An inspection: the state of the channel at a moment of the clock in milliseconds, and where it logs.
 #[derive(Drop)]
 struct Inspection<'a, E> {
     log: &'a OperatorLog<'a, E>,
+    measurements: &'a Measurements,
     settings: &'a Settings,
     snapshot: &'a Snapshot,
     now: u64,
+}
+
+/// What is inspected: the channel, how many jobs it has, and where what is found is stored.
+#[derive(Clone, Copy)]
+pub struct ChannelStatus<'a> {
+    pub measurements: &'a Measurements,
+    pub settings: &'a Settings,
+    pub snapshot: &'a Snapshot,
+    pub jobs: usize,
 }
 
 /// Returns the name of a rendition; empty if there is none.
@@ -118,6 +138,38 @@ fn count_misses(
     (count, most)
 }
 
+/// Whether each rendition has a sync sample near a moment, in microseconds.
+fn are_all_there(snapshot: &Snapshot, renditions: &[Rendition], moment: u64) -> bool {
+    for number in 0..renditions.len() {
+        match snapshot.recording(number) {
+            Some(recording) if distance_to_sync(recording, moment) <= AWAY_US => {}
+            _ => return false,
+        }
+    }
+    true
+}
+
+/// Of these units of the first rendition, counts those that aren't places although no rendition was away.
+fn count_unplaced(
+    snapshot: &Snapshot,
+    renditions: &[Rendition],
+    units: &[u64],
+    places: &[u64],
+) -> u64 {
+    let mut count: u64 = 0;
+    let Some(first) = snapshot.recording(0) else {
+        return 0;
+    };
+    for unit in units {
+        if let Some(facts) = first.facts(*unit) {
+            if !places.contains(unit) && are_all_there(snapshot, renditions, facts.start_us) {
+                count = count.saturating_add(1);
+            }
+        }
+    }
+    count
+}
+
 impl Monitor {
     /// Creates a monitor at a moment of the clock, in milliseconds.
     pub fn new(now: u64) -> Monitor {
@@ -130,6 +182,9 @@ impl Monitor {
             entries: Gauge::new(now, 0),
             recordings: [Gauge::new(now, 0); MOST_RENDITIONS],
             inspected: [false; MOST_RENDITIONS],
+            since: now,
+            next_segment: 0,
+            still_since: now,
         }
     }
 
@@ -142,23 +197,37 @@ impl Monitor {
     pub fn inspect<E: Eprint>(
         &mut self,
         log: &OperatorLog<'_, E>,
-        settings: &Settings,
-        snapshot: &Snapshot,
-        jobs: usize,
+        status: &ChannelStatus<'_>,
         now: u64,
     ) {
         self.next = now.saturating_add(INSPECTION_MS);
         let at = Inspection {
             log,
-            settings,
-            snapshot,
+            measurements: status.measurements,
+            settings: status.settings,
+            snapshot: status.snapshot,
             now,
         };
+        self.measure_times(&at);
         self.inspect_limits(&at);
         self.inspect_lag(&at);
         self.inspect_cuts(&at);
-        self.inspect_jobs(&at, jobs);
+        self.inspect_jobs(&at, status.jobs);
         self.inspect_encryption(&at);
+    }
+
+    /// Stores how long the server has run, and how long the live playlists have ended with the same segment: not at all before there is
+    /// one.
+    fn measure_times<E: Eprint>(&mut self, at: &Inspection<'_, E>) {
+        let next = at.snapshot.line().segments().next();
+        if next != self.next_segment || next == 0 {
+            self.next_segment = next;
+            self.still_since = at.now;
+        }
+        let uptime_ms = at.now.saturating_sub(self.since);
+        let still_ms = at.now.saturating_sub(self.still_since);
+        store(&at.measurements.uptime_us, uptime_ms.saturating_mul(1000));
+        store(&at.measurements.still_us, still_ms.saturating_mul(1000));
     }
 
     /// Checks how near the log and the recordings are to their limits.
@@ -222,6 +291,7 @@ impl Monitor {
         };
         let units = last_syncs(first, from, until);
         let out = count_uncovered(units.as_slice(), last_segments(snapshot).as_slice());
+        store(&at.measurements.unlisted_syncs, out as u64);
         if let AlertChange::Raised = self.uncovered.update(out > 0, true, at.now) {
             log_uncovered(at.log, name(renditions, 0), out, units.len(), target);
         }
@@ -233,6 +303,9 @@ impl Monitor {
         let places = last_places(snapshot, units.last().copied().unwrap_or(0));
         let places = places.as_slice();
         let missed = count_missing(units, places);
+        store(&at.measurements.checked_syncs, units.len() as u64);
+        let unplaced = count_unplaced(snapshot, renditions, units, places);
+        store(&at.measurements.unplaced_syncs, unplaced);
         if let AlertChange::Raised = self.missing.update(is_uneven(missed), true, at.now) {
             let blocking = find_blocking_rendition(snapshot, renditions, units, places);
             log_missing(at.log, name(renditions, 0), missed, units.len(), blocking);

@@ -32,6 +32,17 @@ pub fn log_recovered<E: Eprint>(log: &OperatorLog<'_, E>) {
     let _ = eprintln!(log.rt; "serve: live lists go on");
 }
 
+/// Logs that nothing is heard of a rendition's encoder, so that the rendition is filled.
+pub fn log_away<E: Eprint>(log: &OperatorLog<'_, E>, name: DisplayName<'_>, fillers: u64) {
+    let (rt, level) = (log.rt, log.warning_prefix());
+    let _ = eprintln!(rt; "{level}serve: {name} is away and is filled, {fillers} fillers so far");
+}
+
+/// Logs that a rendition's encoder is back.
+pub fn log_returned<E: Eprint>(log: &OperatorLog<'_, E>, name: DisplayName<'_>, fillers: u64) {
+    let _ = eprintln!(log.rt; "serve: {name} is back after {fillers} fillers");
+}
+
 /// A resource that fills up towards its limit.
 #[derive(Clone, Copy)]
 pub enum LimitedResource<'a> {

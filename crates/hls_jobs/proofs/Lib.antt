@@ -4,3 +4,5 @@ mod Calls
 mod Keeps
 mod Lists
 mod CertificateTexts
+pub mod ProgrammeTexts
+mod ProgrammesStay

@@ -1,7 +1,7 @@
 -- A reply's playlists can be written.
-use Rattle.std.proofs.Common.{◌≡◌, ℕ, ◌<◌, ◌≤◌, ℤ, Option, List, length, Some, None, ap, subst, ⊎_elim, ◌∙◌, arith, get_or, Vec, Global}
+use Rattle.std.proofs.Common.{◌≡◌, ℕ, ◌<◌, ◌≤◌, ℤ, Option, List, length, Some, None, ap, refl, subst, ⊎_elim, ◌∙◌, arith, get_or, Vec, Global}
 use Rattle.std.specs.Prelude.{slice_get, map, option_map}
-use Rattle.std.proofs.lemmas.Option.{slice_get_within, slice_get_cases, slice_get-map}
+use Rattle.std.proofs.lemmas.Option.{slice_get_within, slice_get_cases, slice_get-map, slice_get_read}
 use Rattle.hls_record.specs.RecordingData.{RecordingData}
 use Rattle.hls_check_tables.specs.Tables.{Table}
 use Rattle.hls_check_tables.specs.Certificates.{ClaimData, CutClaim, NoneClaim, CertificateData}
@@ -33,3 +33,9 @@ list_has_text s request cut_result lists certificate r list right is there =
     let cut : IsRightAnswer s request (Cut lists certificate) = subst (λ (c : CutResult). IsRightAnswer s request c) is right in
     shows_text s.config.epoch cut.recordings cut.table (map playlist_of lists.items) certificate.shown r (playlist_of list) cut.covered.renditions cut.right.1
     (slice_get-map playlist_of lists.items r ∙ ap (option_map playlist_of) there)
+
+-- the playlist that was read at a rendition's number
+pub list_there : (lists read : List MediaPlaylist) (rendition : ℕ) (list : MediaPlaylist) → read ≡ lists → rendition < length read → list ≡ get_or read rendition list →
+    slice_get lists rendition ≡ Some list
+list_there lists read rendition list same within is =
+    subst (λ (ls : List MediaPlaylist). slice_get ls rendition ≡ Some list) same (slice_get_read read (length read) rendition list refl within is)

@@ -1,3 +1,5 @@
+pub mod ProgrammeLaws
+pub mod Programmes
 pub mod Rows
 pub mod Model
 pub mod CertificateWriter

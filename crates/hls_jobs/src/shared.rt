@@ -47,14 +47,22 @@ pub struct Jobs {
 impl Jobs {
     /// Creates an empty table. An allocation failure is the only error.
     pub fn new(alloc: Global) -> Result<Jobs, AllocError> {
-        let table = JobTable::new(alloc)?;
-        Ok(Jobs {
+        Ok(Jobs::with_table(JobTable::new(alloc)?))
+    }
+
+    /// Creates an empty table whose ids count from the given one, at least 1 and at most 2^53. An allocation failure is the only error.
+    pub fn starting_at(alloc: Global, first: u64) -> Result<Jobs, AllocError> {
+        Ok(Jobs::with_table(JobTable::starting_at(alloc, first)?))
+    }
+
+    fn with_table(table: JobTable) -> Jobs {
+        Jobs {
             inner: Mutex::new(JobsInner {
                 table,
                 closed: false,
             }),
             available: Condvar::new(),
-        })
+        }
     }
 
     /// Adds a job, and wakes a loop that waits for work. `TableFull` is the only fault. May wait.

@@ -1,7 +1,7 @@
 //! The job table.
 
-ghost use Rattle.std.specs.Prelude.{◌≡◌, IfOk, IfErr, length};
-ghost use Rattle.hls_catchup.specs.Jobs.Tables.{IsJobTable, empty_table};
+ghost use Rattle.std.specs.Prelude.{◌≡◌, [], IfOk, IfErr, length, max, min};
+ghost use Rattle.hls_catchup.specs.Jobs.Tables.{IsJobTable, empty_table, id_limit};
 ghost use Rattle.hls_catchup.specs.Jobs.Changes.{Adds, Takes, Finishes, Gets, Removes};
 ghost use Rattle.hls_jobs.specs.Model.{without_returned};
 ghost use Rattle.hls_jobs.specs.Rows.{HasWaiting};
@@ -58,6 +58,16 @@ impl JobTable {
     {
         Ok(JobTable {
             next: 1,
+            rows: Vec::with_capacity(alloc, JOB_LIMIT)?,
+        })
+    }
+
+    /// Creates an empty table whose ids count from the given one: at least 1, and at most 2^53, where it takes no job.
+    pub fn starting_at(alloc: Global, first: u64) -> Result<JobTable, AllocError>
+        ensures { IfOk result (λ t. (t.rows ≡ []) × (t.next ≡ max 1 (min first id_limit))) }
+    {
+        Ok(JobTable {
+            next: first.clamp(1, ID_LIMIT),
             rows: Vec::with_capacity(alloc, JOB_LIMIT)?,
         })
     }

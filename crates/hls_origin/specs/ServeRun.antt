@@ -1,15 +1,28 @@
 -- How `serve` may end, given its arguments.
-use Rattle.std.specs.Prelude.{◌≢◌, List, Ok, Err}
+use Rattle.std.specs.Prelude.{◌≡◌, ◌≢◌, List, Ok, Err}
 use Rattle.clap.specs.Words.{Text}
 use Rattle.hls_settings.specs.ReadSettings.{ReadsSettings}
 use Rattle.hls_settings.specs.declared.fault.SettingsFault.TheVariants as faults
+use Rattle.hls_settings.specs.JournalSettings.{sync_setting_of}
+use Rattle.hls_settings.specs.declared.journal_settings.SyncSetting.{SyncSetting}
 use Rattle.hls_settings.specs.declared.settings.Settings.{Settings}
 use Rattle.hls_origin.specs.declared.serve.run.ServeEnd.{ServeEnd}
-use Rattle.hls_origin.specs.declared.serve.run.ServeEnd.TheVariants.{Done, Usage, Base, BindFailed, Memory}
+use Rattle.hls_origin.specs.declared.serve.run.ServeEnd.TheVariants.{Done, Usage, Base, Sync, JournalFailed, BindFailed, Memory}
 
 -- arguments that specify settings
 abbrev pub AreSettings : List Text → Type 0
 AreSettings arguments = (settings : Settings) × ReadsSettings arguments (Ok settings)
+
+-- .. and valid options of a journal
+abbrev pub HasJournal : List Text → Type 0
+HasJournal arguments = AreSettings arguments × (sync : SyncSetting) × (sync_setting_of arguments ≡ Ok sync)
+
+-- how it ends once the channel has a state
+abbrev pub IsServed : ServeEnd → Type 0
+IsServed Done = Unit {0}
+IsServed BindFailed = Unit {0}
+IsServed Memory = Unit {0}
+IsServed end = ⊥
 
 -- a usage fault reports the first invalid argument, and nothing was started; else the arguments were valid, or memory ran out. If the base
 -- can't be taken, nothing was started either
@@ -17,5 +30,7 @@ abbrev pub EndsServe : List Text → ServeEnd → Type 0
 EndsServe arguments Done = AreSettings arguments
 EndsServe arguments BindFailed = AreSettings arguments
 EndsServe arguments (Base fault) = AreSettings arguments
+EndsServe arguments (Sync fault) = AreSettings arguments × (sync_setting_of arguments ≡ Err fault)
+EndsServe arguments JournalFailed = HasJournal arguments
 EndsServe arguments (Usage fault) = ReadsSettings arguments (Err fault) × (fault ≢ faults.Memory)
 EndsServe arguments Memory = Unit {0}

@@ -16,6 +16,9 @@
 //! `hls_origin explain [NAME]` writes what a refusal's name means and what to change, or all names, one per line. The exit status is
 //! 1 for an unknown name or an error, and 2 for a usage fault.
 //!
+//! `hls_origin size [OPTIONS] ADDRESS SPEC..` writes how much memory `serve` with these arguments needs, part by part, and the limits for its
+//! service. The exit status is 1 for an error, and 2 for a usage fault.
+//!
 //! `hls_origin serve [OPTIONS] ADDRESS SPEC..` serves a channel over HTTP until a signal ends it. The exit status is 2 for a usage
 //! fault, and 1 if it can't listen on the address or is out of memory.
 //!
@@ -35,12 +38,13 @@ use hls_commands::{
     CheckEnd, CutEnd, CutFault, ExplainEnd, LintEnd, ListingFault, MEANINGS, run_check, run_cut,
     run_explain, run_lint,
 };
-use hls_io::Counted;
-use hls_settings::{PrintableArgument, SettingsMessage};
+use hls_housekeeper::{settings_needs, write_needs};
+use hls_io::{Counted, write_whole};
+use hls_settings::{PrintableArgument, Settings, SettingsFault, SettingsMessage, read_settings};
 use std::io::{Eprint, ErrorKind};
 use std::net::{Net, TcpListener, TcpStream};
 use std::process::ExitCode;
-use std::rt::{Env, Files};
+use std::rt::Env;
 use std::sync::Wait;
 use std::thread::Threads;
 use std::time::Clock;
@@ -53,6 +57,7 @@ const USAGE: &str =
        hls_origin lint < PLAYLIST
        hls_origin explain [NAME]
        hls_origin serve [OPTIONS] ADDRESS SPEC..
+       hls_origin size [OPTIONS] ADDRESS SPEC..
        hls_origin --help | --version
 ";
 
@@ -94,6 +99,12 @@ serve: a live channel over HTTP; encoders PUT to /ingest/0, /ingest/1, .. and pl
                  not given. No other channel may ever have it
   --base FILE    what precedes: the base at which the channel continues another process's; its run is the
                  channel's
+  --mend         make the units of each rendition contiguous: move starts, fill gaps, drop what overlaps
+  --snap N       with --mend, the most microseconds by which a start is moved, 0 to 250000; 5000
+  --fill N       with --mend, the longest gap that is filled, in microseconds, 0 to 3600000000; 10000000
+  --wait N       with --mend, how many seconds an encoder may be silent before its rendition is filled up to
+                 the others, 1 to 3600; 5
+size: how much memory serve with these arguments needs, in MiB, and the limits of its service
 Each option may stand once, after its command; --each excludes --preferred and --certificate. No word
 may follow check or lint.
 
@@ -305,6 +316,14 @@ fn end_serve(rt: &HostRuntime, arguments: &[String], end: ServeEnd) -> ExitCode
             let _ = eprint!(rt; "serve: {fault}; hls_origin --help says more\n{SERVE_USAGE}");
             ExitCode::from(2)
         }
+        ServeEnd::Sync(fault) => {
+            let _ = eprint!(rt; "serve: {fault}; hls_origin --help says more\n{SERVE_USAGE}");
+            ExitCode::from(2)
+        }
+        ServeEnd::JournalFailed => {
+            let _ = eprintln!(rt; "serve: --journal: this version keeps no journal");
+            ExitCode::from(1)
+        }
         ServeEnd::BindFailed => {
             let _ = eprintln!(rt; "serve: BindFailed");
             ExitCode::from(1)
@@ -313,6 +332,44 @@ fn end_serve(rt: &HostRuntime, arguments: &[String], end: ServeEnd) -> ExitCode
             let _ = eprintln!(rt; "serve: Memory");
             ExitCode::from(1)
         }
+    }
+}
+
+/// Prints an invalid argument of `size`, and the usage.
+fn print_size_fault(rt: &HostRuntime, arguments: &[String], fault: SettingsFault) -> ExitCode
+    ensures { exit_status result ≡ usage_status }
+{
+    let wrong = SettingsMessage { fault, arguments };
+    let _ = eprint!(rt; "size: {wrong}; hls_origin --help says more\n{USAGE}");
+    ExitCode::from(2)
+}
+
+/// Prints what the settings need.
+fn print_needs(rt: &HostRuntime, settings: &Settings) -> ExitCode {
+    let Some(needs) = settings_needs(settings) else {
+        return ExitCode::from(1);
+    };
+    let Ok(text) = write_needs(rt.alloc(), &needs) else {
+        let _ = eprintln!(rt; "size: Memory");
+        return ExitCode::from(1);
+    };
+    if write_whole(&mut Counted::new(io::writer(rt)), &text) {
+        ExitCode::SUCCESS
+    } else {
+        let _ = eprintln!(rt; "size: WriteFailed");
+        ExitCode::from(1)
+    }
+}
+
+/// Runs `size`, with the arguments of `serve`.
+fn run_size_command(rt: &HostRuntime, arguments: &[String]) -> ExitCode {
+    match read_settings(rt.alloc(), arguments) {
+        Ok(settings) => print_needs(rt, &settings),
+        Err(SettingsFault::Memory) => {
+            let _ = eprintln!(rt; "size: Memory");
+            ExitCode::from(1)
+        }
+        Err(fault) => print_size_fault(rt, arguments, fault),
     }
 }
 
@@ -334,7 +391,6 @@ where
         + Clock
         + Eprint
         + Env
-        + Files
         + Sync,
 {
     if asks_for_help(arguments) {
@@ -348,7 +404,8 @@ where
         "check" => run_check_command(rt, threads, rest),
         "lint" => run_lint_command(rt, rest),
         "explain" => run_explain_command(rt, rest),
-        "serve" => end_serve(rt, rest, run_serve(threads, rt.alloc(), rest)),
+        "size" => run_size_command(rt, rest),
+        "serve" => end_serve(rt, rest, run_serve(threads, rt, rt.alloc(), rest)),
         "--version" if rest.is_empty() => print_version(rt),
         "help" | "--help" | "-h" | "--version" => print_usage_fault(rt, rest),
         _ => print_usage_fault(rt, arguments),

@@ -1,10 +1,12 @@
 -- Turns of a worker's connection, one after the other.
-use Rattle.std.proofs.Common.{◌≡◌, ◌∙◌, Bool, List, ℕ, ◌++◌, ◌||◌, refl, sym, ap, append_assoc, append-nil}
+use Rattle.std.proofs.Common.{◌≡◌, ◌∙◌, ◌⊎◌, inl, inr, Bool, List, ℕ, ◌++◌, ◌||◌, refl, sym, ap, append_assoc, append-nil, subst}
 use Rattle.std.proofs.Math.Bool.{or-false, or_assoc}
 use Rattle.hls_event_loop.specs.Traffic.{Traffic, followed_by, no_traffic}
-use Rattle.hls_connection.specs.{declared.connection.Connection.Connection, Connections.history, Connections.renditions_of}
+use Rattle.hls_connection.specs.{declared.connection.Connection.Connection, Connections.history, Connections.channel_of}
 use Rattle.hls_api.{proofs.Callers.{acted_none, acted_on}, specs.{Acts.Knowledge, OtherActors.Others}}
-use Rattle.hls_server.specs.HandlerConnections.{HistoryGrows}
+use Rattle.hls_api.specs.Types.{State}
+use Rattle.hls_server.specs.{HandlerConnections.{HistoryGrows, ServesHeld}, SendGates.{Covers, KeepsCovered}}
+use Rattle.hls_server.specs.{declared.logged_connection.LoggedConnection.LoggedConnection, declared.send_gate.NeededPoint.NeededPoint}
 
 -- it may stay as it is
 pub grows_by_nothing : (a : Knowledge) (v : Connection) → HistoryGrows a v no_traffic a v
@@ -15,7 +17,7 @@ grows_by_nothing a v =
       ended = sym (or-false h.ended);
       sent = sym (append-nil h.sent);
       acts = acted_none Others a h.acts;
-      renditions = refl;
+      channel = refl;
     }
 
 grown : (before s t middle after : List ℕ) → middle ≡ before ++ s → after ≡ middle ++ t → after ≡ before ++ (s ++ t)
@@ -28,5 +30,24 @@ growth_composes {a} {b} {c} {u} {v} {w} s t first second = record {
   ended = second.ended ∙ ap (λ (e : Bool). e || t.ended) first.ended ∙ or_assoc (history u).ended s.ended t.ended;
   sent = grown (history u).sent s.sent t.sent (history v).sent (history w).sent first.sent second.sent;
   acts = acted_on Others a b c (history u).acts (history v).acts (history w).acts first.acts second.acts;
-  renditions = second.renditions ∙ first.renditions;
+  channel = second.channel ∙ first.channel;
+}
+
+-- what covered a state covers the same one, where the same is needed
+still_covers : (before seen : State) (was needed : NeededPoint) → seen ≡ before → needed ≡ was → Covers before was → Covers seen needed
+still_covers before seen was needed same need covers =
+    subst (λ (s : State). Covers s needed) (sym same) (subst (λ (n : NeededPoint). Covers before n) (sym need) covers)
+
+pub covered_on : (s t u : State) (l m n : NeededPoint) → KeepsCovered s l t m → KeepsCovered t m u n → KeepsCovered s l u n
+covered_on s t u l m n first (inr covers) = inr covers
+covered_on s t u l m n (inr covers) (inl same) = inr (still_covers t u m n same.0 same.1 covers)
+covered_on s t u l m n (inl first) (inl second) = inl (second.0 ∙ first.0, second.1 ∙ first.1)
+
+pub serves_nothing : (a : Knowledge) (v : LoggedConnection) → ServesHeld a v no_traffic a v
+serves_nothing a v = record { grows = grows_by_nothing a v.connection; covered = inl (refl, refl) }
+
+pub serves_on : {a b c : Knowledge} {u v w : LoggedConnection} (s t : Traffic) → ServesHeld a u s b v → ServesHeld b v t c w → ServesHeld a u (followed_by s t) c w
+serves_on {a} {b} {c} {u} {v} {w} s t first second = record {
+  grows = growth_composes s t first.grows second.grows;
+  covered = covered_on a.seen b.seen c.seen u.gate.needed v.gate.needed w.gate.needed first.covered second.covered;
 }

@@ -1,2 +1,3 @@
+pub mod SendGates
 pub mod HandlerConnections
 pub mod HistoryGrowth

@@ -5,19 +5,26 @@ ghost use Rattle.hls_http.specs.ResponseText.{out_of_memory_text};
 ghost use Rattle.hls_api.specs.Acts.{knowledge_of};
 ghost use Rattle.hls_connection.specs.Histories.{new_history};
 ghost use Rattle.hls_connection.specs.Connections.{IsStatus, IsIdleOrBlocked, KeeperSuits, Waits, WantsRead, history, stage, steps_left};
-ghost use Rattle.hls_server.specs.{HistoryGrowth.{growth_composes, grows_by_nothing}, HandlerConnections.{HistoryGrows, socket_end}};
+ghost use Rattle.hls_server.specs.{HistoryGrowth.{serves_on, serves_nothing}, HandlerConnections.{HasStage, IsHeld, ServesHeld, socket_end, unsent}, SendGates.{Covers, unless_held}};
 
+use crate::durability::Durability;
 use crate::logged_connection::{AccessRecord, LoggedConnection};
 use crate::observer::{ClientObserver, log_slow_response};
-use hls_connection::channel_handle::ChannelHandle;
+use crate::request_counts::kind_of_request;
+use crate::send_gate::SendGate;
+use crate::watched_handle::WatchedHandle;
+use hls_api::route::Route;
 use hls_connection::connection::Connection;
+use hls_connection::events::IngestReport;
 use hls_connection::laws::suits_is_stable;
 use hls_event_loop::{ConnectionEnd, ConnectionStage, Handler, WorkerLoads};
-use hls_housekeeper::{LogThrottle, log_failed_accept, may_log};
+use hls_housekeeper::{EncoderSigns, LogThrottle, log_failed_accept, may_log};
 use hls_http::response_parts::out_of_memory_text;
 use hls_http::{Method, SessionEnd};
+use hls_metrics::measurements::add;
 use hls_settings::Settings;
 use hls_time::monotonic_ms;
+use std::alloc::Global;
 use std::cell::Cell;
 use std::io::{self, Eprint, Read};
 use std::net::SocketAddr;
@@ -31,10 +38,16 @@ const SLOW_MS: u64 = 50;
 /// Serves the connections of a worker by a handle of the channel, and logs their requests.
 #[derive(Drop)]
 pub struct ServerHandler<'a, R: Wait> {
-    pub handle: ChannelHandle<'a, R>,
+    pub rt: &'a R,
+    pub alloc: Global,
+    pub handle: WatchedHandle<'a, R>,
+    /// How far the channel's journal is durable.
+    pub durability: &'a Durability,
     /// The names of the renditions, and whether each request is logged.
     pub settings: &'a Settings,
     pub throttle: &'a LogThrottle,
+    /// Where signs of life of encoders are noted.
+    pub signs: &'a EncoderSigns,
     /// By which waiting responses are woken.
     pub worker_loads: &'a WorkerLoads,
     /// How many responses of this worker wait.
@@ -63,6 +76,28 @@ impl<'a, R: Wait> ServerHandler<'a, R> {
         }
     }
 
+    /// Counts bytes that were read.
+    fn count_received(&self, read: &io::Result<usize>) {
+        if let Ok(count) = read {
+            add(
+                &self.handle.handle.channel.measurements.received_bytes,
+                *count as u64,
+            );
+        }
+    }
+
+    /// Counts a request that was answered in this turn. One for the metrics wakes the housekeeper, which measures for the next one even if
+    /// nothing arrives.
+    fn count_request(&self, client: &ClientObserver<'a, R>) {
+        if let Some(access_line) = client.access_line.get() {
+            let kind = kind_of_request(&access_line);
+            self.handle.handle.channel.measurements.count_request(kind);
+            if matches!(access_line.route, Some(Route::Metrics)) {
+                self.handle.handle.channel.turn.tell(self.rt);
+            }
+        }
+    }
+
     /// Wakes responses that wait for a job, where one may have been removed in this turn.
     fn wake_after_removal(&self, client: &ClientObserver<'a, R>) {
         match client.access_line.get() {
@@ -73,16 +108,86 @@ impl<'a, R: Wait> ServerHandler<'a, R> {
         }
     }
 
+    /// Sets what must be durable before the next bytes are sent, and calls the follower if it isn't yet.
+    fn set_gate(&self, gate: &mut SendGate)
+        ensures { Covers self.now.handle.handle.pass.known.seen gate.new.needed }
+    {
+        *gate = SendGate {
+            needed: self.handle.find_needed(self.durability),
+            durable: self.durability.read(),
+        };
+        if gate.is_closed() {
+            self.durability.call(self.rt);
+        }
+    }
+
     /// Who is told of what comes of a peer's requests.
     fn observer(&self, peer: SocketAddr) -> ClientObserver<'a, R> {
         ClientObserver {
-            rt: self.handle.rt,
+            rt: self.rt,
             settings: self.settings,
             address: peer,
             head_read: Cell::new(false),
             access_line: Cell::new(None),
+            ingested: Cell::new(None),
         }
     }
+
+    /// Notes that an encoder's body was ingested further, after the given number of units.
+    fn note_ingested(&self, report: IngestReport, before: u64, now_ms: u64) {
+        if count_heard(report) > before {
+            self.signs.note_unit(report.rendition, now_ms);
+        }
+    }
+
+    /// Notes what arrived of encoders' bodies in a turn, if units are mended: of the body that was received before, and of one that is
+    /// received now.
+    fn note_units(
+        &self,
+        before: Option<IngestReport>,
+        client: &ClientObserver<'a, R>,
+        after: Option<IngestReport>,
+        now_ms: u64,
+    ) {
+        let mut heard = before.map_or(0, count_heard);
+        let mut earlier = before;
+        if let Some(ended) = client.ingested.get() {
+            self.note_ingested(ended, heard, now_ms);
+            self.count_repairs(earlier, ended);
+            heard = 0;
+            earlier = None;
+        }
+        if let Some(report) = after {
+            self.note_ingested(report, heard, now_ms);
+            self.count_repairs(earlier, report);
+        }
+    }
+
+    /// Counts units of a body that were mended, and its fillers, since an earlier report of it.
+    fn count_repairs(&self, earlier: Option<IngestReport>, report: IngestReport) {
+        let measurements = self.handle.handle.channel.measurements;
+        let mended = earlier.map_or(0, |earlier| earlier.counts.mended);
+        let filled = earlier.map_or(0, |earlier| earlier.counts.filled);
+        let counts = report.counts;
+        add(
+            &measurements.mended_fragments,
+            counts.mended.saturating_sub(mended),
+        );
+        add(
+            &measurements.filled_fragments,
+            counts.filled.saturating_sub(filled),
+        );
+    }
+}
+
+/// How many units of a body are signs of life of its encoder, recorded or not. Those that were sent before aren't counted, since nor are
+/// init sections that were.
+fn count_heard(report: IngestReport) -> u64 {
+    let counts = report.counts;
+    counts
+        .units
+        .saturating_add(counts.mended)
+        .saturating_add(counts.dropped)
 }
 
 impl<'a, R: Wait + Clock + Eprint> ServerHandler<'a, R> {
@@ -91,7 +196,7 @@ impl<'a, R: Wait + Clock + Eprint> ServerHandler<'a, R> {
         let Some(access_line) = client.access_line.get() else {
             return;
         };
-        let rt = self.handle.rt;
+        let rt = self.rt;
         let now = monotonic_ms(rt);
         let passed = now.saturating_sub(started_ms);
         if passed >= SLOW_MS && may_log(&self.throttle.slow_response, now) {
@@ -116,7 +221,7 @@ impl<'a, R: Wait + Clock + Eprint> ServerHandler<'a, R> {
                 since_ms: started_ms,
                 access_line: None,
             };
-            *access = Box::new(self.handle.alloc, begun).ok();
+            *access = Box::new(self.alloc, begun).ok();
         }
         if let (Some(access), Some(_)) = (access, access_line) {
             access.access_line = access_line;
@@ -130,7 +235,7 @@ impl<'a, R: Wait + Clock + Eprint> ServerHandler<'a, R> {
         };
         request.count_sent(count);
         if !more && request.access_line.is_some() {
-            request.log(self.handle.rt, monotonic_ms(self.handle.rt), true);
+            request.log(self.rt, monotonic_ms(self.rt), true);
             *access = None;
         }
     }
@@ -139,14 +244,14 @@ impl<'a, R: Wait + Clock + Eprint> ServerHandler<'a, R> {
 impl<'a, R: Wait + Clock + Eprint> Handler for ServerHandler<'a, R> {
     type Connection = LoggedConnection;
 
-    ghost valid = { λ handler logged. KeeperSuits (knowledge_of handler.handle.pass.known handler.handle.acts) logged.connection };
+    ghost valid = { λ handler logged. KeeperSuits (knowledge_of handler.handle.handle.pass.known handler.handle.handle.acts) logged.connection };
 
-    ghost becomes = { λ a before traffic b now. HistoryGrows (knowledge_of a.handle.pass.known a.handle.acts) before.connection traffic
-        (knowledge_of b.handle.pass.known b.handle.acts) now.connection };
+    ghost becomes = { λ a before traffic b now. ServesHeld (knowledge_of a.handle.handle.pass.known a.handle.handle.acts) before traffic
+        (knowledge_of b.handle.handle.pass.known b.handle.handle.acts) now };
 
     ghost is_new = { λ logged. history logged.connection ≡ new_history };
 
-    ghost pending = { λ logged. (history logged.connection).pending };
+    ghost pending = { unsent };
 
     ghost may_read = { λ logged. WantsRead logged.connection };
 
@@ -154,29 +259,47 @@ impl<'a, R: Wait + Clock + Eprint> Handler for ServerHandler<'a, R> {
 
     ghost max_steps = { λ logged. steps_left logged.connection };
 
-    ghost waits = { λ logged. Waits logged.connection };
+    ghost waits = { λ logged. Waits logged.connection ⊎ IsHeld logged };
 
-    ghost own_end = { λ logged. socket_end (stage logged.connection) };
+    ghost own_end = { λ logged. unless_held logged.gate (history logged.connection).pending (socket_end (stage logged.connection)) };
 
-    ghost has_stage = { λ logged connection_stage. IsStatus connection_stage logged.connection };
+    ghost has_stage = { HasStage };
 
     ghost out_of_memory_reply = { out_of_memory_text };
 
     fn open(&self) -> LoggedConnection {
+        add(
+            &self.handle.handle.channel.measurements.accepted_connections,
+            1,
+        );
         LoggedConnection {
-            connection: Connection::new(&self.handle),
+            connection: Connection::new(&self.handle, self.settings.server.mending),
             access: None,
+            gate: SendGate::new(self.durability.read()),
         }
     }
 
     fn advance(&mut self, logged: &mut LoggedConnection, peer: SocketAddr) -> bool {
         suits_is_stable();
+        if logged.is_held() {
+            logged.gate.durable = self.durability.read();
+            return false;
+        }
         let client = self.observer(peer);
-        let started_ms = monotonic_ms(self.handle.rt);
+        let started_ms = monotonic_ms(self.rt);
         let waited = logged.connection.is_waiting();
+        let before = logged.connection.ingest_progress();
         let now = self.time_to_wait(logged, started_ms);
         let more = logged.connection.advance(&mut self.handle, now, &client);
+        self.set_gate(&mut logged.gate);
         self.count_waiting(waited, logged.connection.is_waiting());
+        self.note_units(
+            before,
+            &client,
+            logged.connection.ingest_progress(),
+            started_ms,
+        );
+        self.count_request(&client);
         self.wake_after_removal(&client);
         self.log_slow(&client, started_ms);
         self.note_response(&mut logged.access, &client, started_ms);
@@ -184,20 +307,32 @@ impl<'a, R: Wait + Clock + Eprint> Handler for ServerHandler<'a, R> {
     }
 
     fn read<S: Read>(&self, logged: &mut LoggedConnection, reader: &mut S) -> io::Result<usize> {
-        logged.connection.read_from(reader)
+        let read = logged.connection.read_from(reader);
+        self.count_received(&read);
+        read
     }
 
     fn output<'v>(&self, logged: &'v LoggedConnection) -> &'v [u8] {
+        if logged.is_held() {
+            return &[];
+        }
         logged.connection.output()
     }
 
     fn mark_sent(&self, logged: &mut LoggedConnection, count: usize) {
+        if logged.is_held() {
+            return;
+        }
         logged.connection.mark_sent(count);
+        add(
+            &self.handle.handle.channel.measurements.sent_bytes,
+            count as u64,
+        );
         self.note_sent(&mut logged.access, count, logged.connection.wants_write());
     }
 
     fn wants_write(&self, logged: &LoggedConnection) -> bool {
-        logged.connection.wants_write()
+        logged.connection.wants_write() && !logged.is_held()
     }
 
     fn wants_read(&self, logged: &LoggedConnection) -> bool {
@@ -205,10 +340,13 @@ impl<'a, R: Wait + Clock + Eprint> Handler for ServerHandler<'a, R> {
     }
 
     fn is_waiting(&self, logged: &LoggedConnection) -> bool {
-        logged.connection.is_waiting()
+        logged.connection.is_waiting() || logged.is_held()
     }
 
     fn end(&self, logged: &LoggedConnection) -> Option<ConnectionEnd> {
+        if logged.is_held() {
+            return None;
+        }
         match logged.connection.end()? {
             SessionEnd::Closed | SessionEnd::Refused => Some(ConnectionEnd::Responded),
             _ => Some(ConnectionEnd::Closed),
@@ -216,6 +354,9 @@ impl<'a, R: Wait + Clock + Eprint> Handler for ServerHandler<'a, R> {
     }
 
     fn stage(&self, logged: &LoggedConnection) -> ConnectionStage {
+        if logged.is_held() {
+            return ConnectionStage::Waiting;
+        }
         logged.connection.status()
     }
 
@@ -227,18 +368,18 @@ impl<'a, R: Wait + Clock + Eprint> Handler for ServerHandler<'a, R> {
         self.count_waiting(logged.connection.is_waiting(), false);
         logged.connection.report_read_failure(&self.observer(peer));
         if let Some(access) = &logged.access {
-            access.log(self.handle.rt, monotonic_ms(self.handle.rt), false);
+            access.log(self.rt, monotonic_ms(self.rt), false);
         }
     }
 
     fn note_failed_accept(&self, error: io::Error) {
-        let rt = self.handle.rt;
+        let rt = self.rt;
         if may_log(&self.throttle.failed_accept, monotonic_ms(rt)) {
             log_failed_accept(rt, error);
         }
     }
 
-    ghost unchanged = { λ handler logged. grows_by_nothing (knowledge_of handler.handle.pass.known handler.handle.acts) logged.connection };
+    ghost unchanged = { λ handler logged. serves_nothing (knowledge_of handler.handle.handle.pass.known handler.handle.handle.acts) logged };
 
-    ghost composed = { λ a b c u v w s t first second. growth_composes s t first second };
+    ghost composed = { λ a b c u v w s t first second. serves_on s t first second };
 }

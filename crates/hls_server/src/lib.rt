@@ -1,17 +1,23 @@
 //! A running server of a channel: threads that serve connections from one turn, threads that run catch-up jobs, one that keeps the
-//! channel to its window, and the log lines about clients.
+//! channel to its window, one that writes its journal if it has one, and the log lines about clients.
 //!
 //! What a connection is answered is a session over the turn, which `hls_api` defines. No clause is about threads, sockets and time.
 #![tactic(auto)]
 
+mod durability;
+mod follower;
 mod handler;
 mod limits;
 mod log_lines;
 mod logged_connection;
 mod observer;
+mod request_counts;
+mod send_gate;
 mod server;
 mod startup;
+mod watched_handle;
 
+pub use follower::{FollowFault, NoFollower, StateFollower};
 pub use log_lines::{AccessLine, IngestLine};
-pub use server::run_server;
+pub use server::{ServerJournal, ServerStart, run_server};
 pub use startup::log_start;

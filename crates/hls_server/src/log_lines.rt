@@ -27,6 +27,8 @@ pub struct IngestLine<'a> {
     pub name: DisplayName<'a>,
     pub peer: SocketAddr,
     pub counts: IngestCounts,
+    /// Whether its units are mended.
+    pub is_mended: bool,
     pub ended: Result<(), IngestStop>,
 }
 
@@ -36,7 +38,12 @@ impl<'a> Display for IngestLine<'a> {
         let (name, peer, counts) = (self.name, self.peer, self.counts);
         let (inits, units, repeats) = (counts.inits, counts.units, counts.repeats);
         write!(f, "ingest {name} from {peer}: {how}{fault}")?;
-        write!(f, " init {inits} accepted {units} repeated {repeats}")
+        write!(f, " init {inits} accepted {units} repeated {repeats}")?;
+        if !self.is_mended {
+            return Ok(());
+        }
+        let (mended, filled, dropped) = (counts.mended, counts.filled, counts.dropped);
+        write!(f, " mended {mended} filled {filled} dropped {dropped}")
     }
 }
 

@@ -1,6 +1,11 @@
 //! A connection, and what is logged of its request once the response was taken.
 
+ghost use Rattle.std.specs.Prelude.{◌≡◌};
+ghost use Rattle.hls_connection.specs.Connections.{history};
+ghost use Rattle.hls_server.specs.SendGates.{holds_back};
+
 use crate::log_lines::AccessLine;
+use crate::send_gate::SendGate;
 use hls_connection::connection::Connection;
 use hls_housekeeper::log_line;
 use std::io::Eprint;
@@ -14,11 +19,21 @@ pub struct AccessRecord {
     pub access_line: Option<AccessLine>,
 }
 
-/// A connection, and its request if requests are logged.
+/// A connection, its request if requests are logged, and what holds its bytes back.
 #[derive(Drop)]
 pub struct LoggedConnection {
     pub connection: Connection,
     pub access: Option<Box<AccessRecord>>,
+    pub gate: SendGate,
+}
+
+impl LoggedConnection {
+    /// Whether it has bytes to send that are held back.
+    pub fn is_held(&self) -> bool
+        ensures { result ≡ holds_back self.now.gate (history self.now.connection).pending }
+    {
+        self.gate.is_closed() && self.connection.wants_write()
+    }
 }
 
 impl AccessRecord {

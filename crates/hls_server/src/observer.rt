@@ -29,6 +29,8 @@ pub struct ClientObserver<'a, E> {
     pub head_read: Cell<bool>,
     /// The request that was answered in this turn; nothing of its response was taken yet.
     pub access_line: Cell<Option<AccessLine>>,
+    /// The encoder's body that ended in this turn.
+    pub ingested: Cell<Option<IngestReport>>,
 }
 
 impl<'a, E: Eprint> ClientObserver<'a, E> {
@@ -39,6 +41,7 @@ impl<'a, E: Eprint> ClientObserver<'a, E> {
             name: found.map_or(DisplayName(b""), |found| DisplayName(&found.name)),
             peer: self.address,
             counts: ingested.counts,
+            is_mended: ingested.is_mended,
             ended: ingested.result,
         };
         log_line(self.rt, line);
@@ -49,7 +52,10 @@ impl<'a, E: Eprint> Observer for ClientObserver<'a, E> {
     fn report(&self, event: &SessionEvent) {
         match *event {
             SessionEvent::HeadRead { .. } => self.head_read.set(true),
-            SessionEvent::Ingested(ingested) => self.log_ingest(ingested),
+            SessionEvent::Ingested(ingested) => {
+                self.ingested.set(Some(ingested));
+                self.log_ingest(ingested);
+            }
             SessionEvent::Responded {
                 method,
                 route,

@@ -1,19 +1,23 @@
 //! The server: its threads, from their start to their end.
 
-ghost use Rattle.std.specs.Prelude.{◌≡◌, ◌+◌, ◌≤◌, All, max, min};
+ghost use Rattle.std.specs.Prelude.{◌≡◌, ◌+◌, ◌≤◌, All, IsFalse, IsTrue, max, min};
 
+use crate::durability::Durability;
+use crate::follower::{FollowerContext, StateFollower, run_follower};
 use crate::handler::ServerHandler;
 use crate::limits::{connection_count, waiting_limit, worker_count};
+use crate::watched_handle::WatchedHandle;
 use hls_connection::channel_handle::ChannelHandle;
 use hls_connection::shared_channel::SharedChannel;
 use hls_core::snapshot::Snapshot;
 use hls_event_loop::{WorkerIo, WorkerLoads, open_file_limit, run_worker, tune_listener};
 use hls_housekeeper::{
-    LogThrottle, OperatorLog, ServerStatus, ThreadCounts, log_ended_worker, log_fewer_threads,
-    run_housekeeper,
+    EncoderSigns, LogThrottle, OperatorLog, ServerStatus, ThreadCounts, log_ended_worker,
+    log_fewer_threads, run_housekeeper,
 };
 use hls_jobs::{Gate, Jobs, work_loop};
-use hls_settings::Settings;
+use hls_metrics::Measurements;
+use hls_settings::{Settings, ThreadSettings};
 use hls_turn::{Pass, Turn};
 use std::alloc::{AllocError, Global};
 use std::cell::Cell;
@@ -25,8 +29,27 @@ use std::sync::atomic::{AtomicBool, Ordering};
 use std::thread::{self, JoinHandle, Scope, Threads};
 use std::time::Clock;
 
-/// The most workers: each has a pass, and so has the housekeeper.
+/// The most workers: each has a pass, and so has the housekeeper. With a journal its follower has one, too, and there is one fewer.
 pub const MOST_WORKERS: u64 = 63;
+
+/// The journal of a channel.
+#[derive(Drop)]
+pub struct ServerJournal<F> {
+    /// It has the state in which the server starts.
+    pub follower: F,
+    /// How often it is synced, in milliseconds, if it is by time.
+    pub sync_interval_ms: Option<u64>,
+}
+
+/// What a server starts with.
+#[derive(Drop)]
+pub struct ServerStart<F> {
+    /// The channel as it is then.
+    pub snapshot: Snapshot,
+    /// The first id of a job; 1 for a new channel.
+    pub first_job: u64,
+    pub journal: Option<ServerJournal<F>>,
+}
 
 /// What the threads of a server share.
 #[derive(Clone, Copy)]
@@ -43,8 +66,12 @@ struct ServerContext<'a> {
     /// How many responses of a worker wait at most.
     most_waiting: u64,
     throttle: &'a LogThrottle,
+    /// What was heard of encoders.
+    signs: &'a EncoderSigns,
     /// Whether all workers have ended.
     closed: &'a AtomicBool,
+    /// How far the journal is durable.
+    durability: &'a Durability,
 }
 
 /// Wakes responses that wait for a job whenever one ends.
@@ -68,57 +95,70 @@ impl<'a> ServerStatus for ServerContext<'a> {
         self.channel.jobs.len(rt)
     }
 
+    fn last_heard_ms(&self, rendition: usize) -> u64 {
+        self.signs.last_heard_ms(rendition)
+    }
+
+    fn measurements(&self) -> &Measurements {
+        self.channel.measurements
+    }
+
     fn is_closed(&self) -> bool {
         self.closed.load(Ordering::SeqCst)
     }
 }
 
-/// The number of passes: one for each worker that is asked for, 1 to 63, and the housekeeper's.
-fn pass_count(workers: u64) -> u16
-    ensures count { result ≡ max 1 (min workers 63) + 1 }
+/// The number of passes: one for each worker that is asked for, 1 to 63, the housekeeper's, and the follower's if there is a journal.
+/// They are 64 at most.
+fn pass_count(workers: u64, has_journal: bool) -> u16
+    ensures plain { IsFalse has_journal → result ≡ max 1 (min workers 63) + 1 }
+    ensures followed { IsTrue has_journal → result ≡ max 1 (min workers 62) + 2 }
     ensures few { (1 ≤ result) × (result ≤ 64) }
 {
-    let workers = workers.clamp(1, MOST_WORKERS);
-    (workers + 1) as u16
+    if has_journal {
+        return (workers.clamp(1, MOST_WORKERS - 1) + 2) as u16;
+    }
+    (workers.clamp(1, MOST_WORKERS) + 1) as u16
 }
 
-/// Serves connections from a channel that begins empty. Each worker accepts the given number of connections, or serves forever if none
-/// is given. The housekeeper and the planners end when all workers have, and the planners finish the jobs that wait by then.
+/// Serves connections from a channel, which begins as `start` says. Each worker accepts the given number of connections, or serves
+/// forever if none is given. The housekeeper, the follower of the journal and the planners end when all workers have, and the planners
+/// finish the jobs that wait by then.
 ///
 /// A worker holds many connections at once, and none of them may be silent or slow forever. If a thread can't be started, the others
-/// serve, and a line is logged. An allocation failure is returned before a thread is started, or if no worker could be. Accepts on the
-/// listener don't block meanwhile. May wait.
-pub fn run_server<'a, R: Net<Listener = TcpListener, Stream = TcpStream>>(
+/// serve, and a line is logged; without its follower a channel with a journal isn't served. An allocation failure is returned before a
+/// thread is started, or if no worker could be. Accepts on the listener don't block meanwhile. May wait.
+pub fn run_server<'a, R: Net<Listener = TcpListener, Stream = TcpStream>, F: StateFollower + Send>(
     rt: &R,
     alloc: Global,
     settings: &'a Settings,
     listener: &'a TcpListener,
     connections: Option<u64>,
+    start: ServerStart<F>,
 ) -> Result<(), AllocError>
 where
     R: Threads + Wait + Clock + Eprint + Env + Sync,
+    F: Drop,
 {
-    let config = settings.config.share()?;
-    let snapshot = Snapshot::first(alloc, config)?;
+    let ServerStart {
+        snapshot,
+        first_job,
+        journal,
+    } = start;
     let workers = settings.server.workers;
-    let count = pass_count(workers.workers);
+    let durability = find_durability(&snapshot, journal.is_some());
+    let count = pass_count(workers.workers, journal.is_some());
     let (turn, passes) = Turn::new(rt, alloc, snapshot, count)?;
-    let jobs = Jobs::new(alloc)?;
+    let jobs = Jobs::starting_at(alloc, first_job)?;
+    let measurements = Measurements::new(alloc)?;
     let files = open_file_limit();
-    let worker_count = worker_count(workers, files);
+    let worker_loads = make_loads(alloc, workers, files, connections)?;
     let channel = SharedChannel {
         turn: &turn,
         jobs: &jobs,
+        measurements: &measurements,
     };
-    let most = connections.unwrap_or(u64::MAX);
-    let Ok(worker_loads) = WorkerLoads::new(
-        alloc,
-        worker_count,
-        connection_count(workers, files),
-        most,
-    ) else {
-        return Err(AllocError);
-    };
+    let signs = EncoderSigns::new();
     let throttle = LogThrottle::new();
     let closed = AtomicBool::new(false);
     let context = ServerContext {
@@ -126,16 +166,44 @@ where
         settings,
         channel: &channel,
         listener,
-        worker_count,
+        worker_count: worker_count(workers, files),
         worker_loads: &worker_loads,
         most_waiting: waiting_limit(workers, files),
         throttle: &throttle,
+        signs: &signs,
         closed: &closed,
+        durability: &durability,
     };
     tune_listener(listener);
-    let ran = run_threads(rt, &context, passes);
+    let ran = run_threads(rt, &context, passes, journal);
     let _ = listener.set_nonblocking(false);
     ran
+}
+
+/// Returns how far the first state of a channel is durable.
+fn find_durability(snapshot: &Snapshot, has_journal: bool) -> Durability {
+    if has_journal {
+        Durability::new(Some(snapshot.version()))
+    } else {
+        Durability::new(None)
+    }
+}
+
+/// Makes what the workers know of each other.
+fn make_loads(
+    alloc: Global,
+    workers: ThreadSettings,
+    files: u64,
+    connections: Option<u64>,
+) -> Result<WorkerLoads, AllocError> {
+    let (count, held) = (
+        worker_count(workers, files),
+        connection_count(workers, files),
+    );
+    match WorkerLoads::new(alloc, count, held, connections.unwrap_or(u64::MAX)) {
+        Ok(worker_loads) => Ok(worker_loads),
+        Err(_) => Err(AllocError),
+    }
 }
 
 /// Serves connections on one thread, and logs if the system doesn't let it.
@@ -147,10 +215,15 @@ fn run_worker_thread<R: Wait + Clock + Eprint>(
 )
     requires { pass.turn ≡ context.now.channel.now.turn.now }
 {
+    let handle = ChannelHandle::new(rt, context.alloc, context.channel, pass);
     let handler = ServerHandler {
-        handle: ChannelHandle::new(rt, context.alloc, context.channel, pass),
+        rt,
+        alloc: context.alloc,
+        handle: WatchedHandle::new(handle),
+        durability: context.durability,
         settings: context.settings,
         throttle: context.throttle,
+        signs: context.signs,
         worker_loads: context.worker_loads,
         waiting: Cell::new(0),
         most_waiting: context.most_waiting,
@@ -185,6 +258,26 @@ fn run_housekeeper_thread<R: Wait + Clock + Eprint + Env>(
         context,
         &mut pass,
     );
+}
+
+/// Runs the follower of the journal on one thread.
+fn run_follower_thread<R: Wait + Clock, F: StateFollower + Drop>(
+    rt: &R,
+    context: &ServerContext<'_>,
+    mut journal: ServerJournal<F>,
+    mut pass: Pass,
+)
+    requires { pass.turn ≡ context.now.channel.now.turn.now }
+{
+    let what = FollowerContext {
+        alloc: context.alloc,
+        turn: context.channel.turn,
+        durability: context.durability,
+        worker_loads: context.worker_loads,
+        measurements: context.channel.measurements,
+        sync_interval_ms: journal.sync_interval_ms,
+    };
+    run_follower(rt, what, &mut journal.follower, context, &mut pass);
 }
 
 /// Starts a thread for each pass, which serves connections. Returns the threads that were started.
@@ -238,14 +331,53 @@ fn start_planners<'s, E, R: Wait + Sync>(
     started
 }
 
-/// Runs a thread for each pass, and the planners: that of the last pass runs the housekeeper, the others serve connections.
-fn run_threads<R: Net<Listener = TcpListener, Stream = TcpStream>>(
+/// Ends the housekeeper, the follower and the planners.
+fn close_server<R: Wait>(rt: &R, context: &ServerContext<'_>) {
+    context.channel.jobs.close(rt);
+    context.closed.store(true, Ordering::SeqCst);
+    context.channel.turn.tell(rt);
+    context.durability.call(rt);
+}
+
+/// Runs the workers, with a pass each, and the planners, to the end of the workers. Returns how many workers were started.
+fn run_workers<'s, E, R: Net<Listener = TcpListener, Stream = TcpStream>>(
+    scope: &Scope<'s, E>,
+    rt: &'s R,
+    context: &'s ServerContext<'s>,
+    passes: Vec<Pass>,
+    has_housekeeper: bool,
+) -> Result<u64, AllocError>
+where
+    R: Threads + Wait + Clock + Eprint + Env + Sync,
+    requires { All (λ p. p.turn ≡ context.now.channel.now.turn.now) passes.items }
+{
+    let room = Vec::with_capacity(context.alloc, passes.len())?;
+    let planners = context.settings.server.workers.planners;
+    let wanted = ThreadCounts::all(passes.len(), planners);
+    let workers = start_workers(scope, rt, context, passes, room);
+    let started = ThreadCounts {
+        has_housekeeper,
+        workers: workers.len() as u64,
+        planners: start_planners(scope, rt, context),
+    };
+    log_fewer_threads(&OperatorLog::new(rt), started, wanted);
+    for worker in workers {
+        worker.join(rt);
+    }
+    Ok(started.workers)
+}
+
+/// Runs a thread for each pass, and the planners: the last pass is the housekeeper's, the one before it the follower's if there is a
+/// journal, and the others serve connections.
+fn run_threads<R: Net<Listener = TcpListener, Stream = TcpStream>, F: StateFollower + Send>(
     rt: &R,
     context: &ServerContext<'_>,
     passes: Vec<Pass>,
+    journal: Option<ServerJournal<F>>,
 ) -> Result<(), AllocError>
 where
     R: Threads + Wait + Clock + Eprint + Env + Sync,
+    F: Drop,
     requires { All (λ p. p.turn ≡ context.now.channel.now.turn.now) passes.items }
 {
     thread::scope(
@@ -254,35 +386,34 @@ where
         move |scope| -> Result<(), AllocError>
             requires { All (λ p. p.turn ≡ context.now.channel.now.turn.now) passes.items }
         {
-            let room = Vec::with_capacity(context.alloc, passes.len())?;
             let mut passes = passes;
             let Some(last) = passes.pop() else {
                 return Ok(());
             };
-            let planners = context.settings.server.workers.planners;
-            let wanted = ThreadCounts::all(passes.len(), planners);
+            if let Some(journal) = journal {
+                let Some(pass) = passes.pop() else {
+                    return Ok(());
+                };
+                let follower = scope.spawn(
+                    move || -> ()
+                        requires { pass.turn ≡ context.now.channel.now.turn.now }
+                    { run_follower_thread(rt, context, journal, pass) },
+                );
+                if follower.is_err() {
+                    return Err(AllocError);
+                }
+            }
             let keeper = scope.spawn(
                 move || -> ()
                     requires { last.turn ≡ context.now.channel.now.turn.now }
                 { run_housekeeper_thread(rt, context, last) },
             );
-            let workers = start_workers(scope, rt, context, passes, room);
-            let started = ThreadCounts {
-                has_housekeeper: keeper.is_ok(),
-                workers: workers.len() as u64,
-                planners: start_planners(scope, rt, context),
-            };
-            log_fewer_threads(&OperatorLog::new(rt), started, wanted);
-            for worker in workers {
-                worker.join(rt);
+            let ran = run_workers(scope, rt, context, passes, keeper.is_ok());
+            close_server(rt, context);
+            match ran {
+                Ok(workers) if workers > 0 => Ok(()),
+                _ => Err(AllocError),
             }
-            context.channel.jobs.close(rt);
-            context.closed.store(true, Ordering::SeqCst);
-            context.channel.turn.tell(rt);
-            if started.workers == 0 {
-                return Err(AllocError);
-            }
-            Ok(())
         },
     )
 }

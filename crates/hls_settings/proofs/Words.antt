@@ -11,43 +11,47 @@ use Rattle.clap.proofs.WalkLemmas.{first_value-rows, raw_values-rows}
 use Rattle.hls_settings.specs.declared.fault.SettingsFault.{SettingsFault}
 use Rattle.hls_settings.specs.declared.fault.SettingsFault.TheVariants as faults
 use Rattle.hls_settings.specs.declared.settings.Settings.{Settings}
-use Rattle.hls_settings.specs.Command.{channel_app, options_app, serve_app, texts_in, texts_of, timing_app}
+use Rattle.hls_settings.specs.Command.{channel_app, journal_app, options_app, server_app, serve_app, texts_in, texts_of, timing_app}
 use Rattle.hls_settings.specs.ReadSettings.{ReadsSettings, SetsBy, SetsIn, refused_by, rendition_arguments}
 use Rattle.hls_settings.specs.Settings.{Texts, server_settings_of}
 use Rattle.hls_settings.specs.WrongArguments.{serve_options, wrong_argument}
 use Rattle.hls_settings.specs.declared.wrong_argument.WrongArgument.{WrongArgument}
 
 pub serve_is_simple : is_simple serve_app ≡ true
-unfolding serve_app options_app channel_app timing_app
+unfolding serve_app journal_app options_app server_app channel_app timing_app
 serve_is_simple = refl
 
 pub serve_is_simple_and_free : is_simple_and_free serve_app ≡ true
-unfolding serve_app options_app channel_app timing_app
+unfolding serve_app journal_app options_app server_app channel_app timing_app
 serve_is_simple_and_free = refl
 
 -- what the getters return, by the rows
-abbrev texts_from : Option Text → Option Text → Option Text → Option Text → Option Text → Option Text → Option Text → Option Text → Option Text → Option Text → Option Text → Option Text → Option (List Text) → Texts
-texts_from a b c d e f g h i j m k l = record { target = a; preferred = b; window = c; keep = d; epoch = e; workers = f; connections = g; planners = h; idle_timeout_s = i; log = j; run = m; address = k; renditions = l }
+abbrev texts_from : Option Text → Option Text → Option Text → Option Text → Option Text → Option Text → Option Text → Option Text → Option Text → Option Text → Option Text → Option Text → Option Text → Option Text → Option Text → Option Text → Option (List Text) → Texts
+texts_from a b c d e f g h i j m q r s w k l = record { target = a; preferred = b; window = c; keep = d; epoch = e; workers = f; connections = g; planners = h; idle_timeout_s = i; log = j; run = m; mend = q; snap = r; fill = s; wait = w; address = k; renditions = l }
 
-same_texts : (a a' b b' c c' d d' e e' f f' g g' h h' i i' j j' m m' k k' : Option Text) (l l' : Option (List Text)) → a ≡ a' → b ≡ b' → c ≡ c' → d ≡ d' → e ≡ e' → f ≡ f' → g ≡ g' → h ≡ h' → i ≡ i' → j ≡ j' → m ≡ m' → k ≡ k' → l ≡ l'
-    → texts_from a b c d e f g h i j m k l ≡ texts_from a' b' c' d' e' f' g' h' i' j' m' k' l'
-same_texts a a' b b' c c' d d' e e' f f' g g' h h' i i' j j' m m' k k' l l' pa pb pc pd pe pf pg ph pi pj pm pk pl =
-    ap (λ (x : Option Text). texts_from x b c d e f g h i j m k l) pa ∙
-    ap (λ (x : Option Text). texts_from a' x c d e f g h i j m k l) pb ∙
-    ap (λ (x : Option Text). texts_from a' b' x d e f g h i j m k l) pc ∙
-    ap (λ (x : Option Text). texts_from a' b' c' x e f g h i j m k l) pd ∙
-    ap (λ (x : Option Text). texts_from a' b' c' d' x f g h i j m k l) pe ∙
-    ap (λ (x : Option Text). texts_from a' b' c' d' e' x g h i j m k l) pf ∙
-    ap (λ (x : Option Text). texts_from a' b' c' d' e' f' x h i j m k l) pg ∙
-    ap (λ (x : Option Text). texts_from a' b' c' d' e' f' g' x i j m k l) ph ∙
-    ap (λ (x : Option Text). texts_from a' b' c' d' e' f' g' h' x j m k l) pi ∙
-    ap (λ (x : Option Text). texts_from a' b' c' d' e' f' g' h' i' x m k l) pj ∙
-    ap (λ (x : Option Text). texts_from a' b' c' d' e' f' g' h' i' j' x k l) pm ∙
-    ap (λ (x : Option Text). texts_from a' b' c' d' e' f' g' h' i' j' m' x l) pk ∙
-    ap (λ (x : Option (List Text)). texts_from a' b' c' d' e' f' g' h' i' j' m' k' x) pl
+same_texts : (a a' b b' c c' d d' e e' f f' g g' h h' i i' j j' m m' q q' r r' s s' w w' k k' : Option Text) (l l' : Option (List Text)) → a ≡ a' → b ≡ b' → c ≡ c' → d ≡ d' → e ≡ e' → f ≡ f' → g ≡ g' → h ≡ h' → i ≡ i' → j ≡ j' → m ≡ m' → q ≡ q' → r ≡ r' → s ≡ s' → w ≡ w' → k ≡ k' → l ≡ l'
+    → texts_from a b c d e f g h i j m q r s w k l ≡ texts_from a' b' c' d' e' f' g' h' i' j' m' q' r' s' w' k' l'
+same_texts a a' b b' c c' d d' e e' f f' g g' h h' i i' j j' m m' q q' r r' s s' w w' k k' l l' pa pb pc pd pe pf pg ph pi pj pm pq pr ps pw pk pl =
+    ap (λ (x : Option Text). texts_from x b c d e f g h i j m q r s w k l) pa ∙
+    ap (λ (x : Option Text). texts_from a' x c d e f g h i j m q r s w k l) pb ∙
+    ap (λ (x : Option Text). texts_from a' b' x d e f g h i j m q r s w k l) pc ∙
+    ap (λ (x : Option Text). texts_from a' b' c' x e f g h i j m q r s w k l) pd ∙
+    ap (λ (x : Option Text). texts_from a' b' c' d' x f g h i j m q r s w k l) pe ∙
+    ap (λ (x : Option Text). texts_from a' b' c' d' e' x g h i j m q r s w k l) pf ∙
+    ap (λ (x : Option Text). texts_from a' b' c' d' e' f' x h i j m q r s w k l) pg ∙
+    ap (λ (x : Option Text). texts_from a' b' c' d' e' f' g' x i j m q r s w k l) ph ∙
+    ap (λ (x : Option Text). texts_from a' b' c' d' e' f' g' h' x j m q r s w k l) pi ∙
+    ap (λ (x : Option Text). texts_from a' b' c' d' e' f' g' h' i' x m q r s w k l) pj ∙
+    ap (λ (x : Option Text). texts_from a' b' c' d' e' f' g' h' i' j' x q r s w k l) pm ∙
+    ap (λ (x : Option Text). texts_from a' b' c' d' e' f' g' h' i' j' m' x r s w k l) pq ∙
+    ap (λ (x : Option Text). texts_from a' b' c' d' e' f' g' h' i' j' m' q' x s w k l) pr ∙
+    ap (λ (x : Option Text). texts_from a' b' c' d' e' f' g' h' i' j' m' q' r' x w k l) ps ∙
+    ap (λ (x : Option Text). texts_from a' b' c' d' e' f' g' h' i' j' m' q' r' s' x k l) pw ∙
+    ap (λ (x : Option Text). texts_from a' b' c' d' e' f' g' h' i' j' m' q' r' s' w' x l) pk ∙
+    ap (λ (x : Option (List Text)). texts_from a' b' c' d' e' f' g' h' i' j' m' q' r' s' w' k' x) pl
 
 texts-rows : (found : Found) → texts_in found ≡ texts_of (rows_of found)
-texts-rows found = same_texts _ _ _ _ _ _ _ _ _ _ _ _ _ _ _ _ _ _ _ _ _ _ _ _ _ _
+texts-rows found = same_texts _ _ _ _ _ _ _ _ _ _ _ _ _ _ _ _ _ _ _ _ _ _ _ _ _ _ _ _ _ _ _ _ _ _
     (first_value-rows found (codes "target"))
     (first_value-rows found (codes "preferred"))
     (first_value-rows found (codes "window"))
@@ -59,6 +63,10 @@ texts-rows found = same_texts _ _ _ _ _ _ _ _ _ _ _ _ _ _ _ _ _ _ _ _ _ _ _ _ _ 
     (first_value-rows found (codes "patience"))
     (first_value-rows found (codes "log"))
     (first_value-rows found (codes "run"))
+    (first_value-rows found (codes "mend"))
+    (first_value-rows found (codes "snap"))
+    (first_value-rows found (codes "fill"))
+    (first_value-rows found (codes "wait"))
     (first_value-rows found (codes "address"))
     (raw_values-rows found (codes "renditions"))
 

@@ -2,7 +2,7 @@
 use Rattle.std.specs.Prelude.{List, [], ◌∷◌, Bool, true, false}
 use Rattle.clap.specs.Words.{App, Rule, Text, new_app, with_rule}
 use Rattle.hls_settings.specs.Command.{value_rule, without_name}
-use Rattle.hls_settings.specs.Options.{flag_rule}
+use Rattle.hls_settings.specs.Flags.{flag_rule}
 
 -- an option with or without a value
 abbrev pub option_rule : Text → Bool → Rule

@@ -1,9 +1,11 @@
 -- The arguments after `serve` as `clap` parses them: options with a value each, an address, and the renditions.
-use Rattle.std.specs.Prelude.{List, Some, true, codes, option_map, Result}
+use Rattle.std.specs.Prelude.{List, Some, Option, true, codes, option_map, Result}
 use Rattle.clap.specs.Words.{App, Row, Rule, Text, all_of, first_of, first_value, matched_of, new_app, new_rule, raw_values, with_rule}
 use Rattle.clap.specs.declared.parser.matches.Found.{Found}
 use Rattle.clap.specs.declared.builder.action.ArgAction.TheVariants.{Append}
-use Rattle.hls_settings.specs.Settings.{Texts, timing_of, workers_of}
+use Rattle.hls_settings.specs.Settings.{Texts, mending_of, timing_of, workers_of}
+use Rattle.hls_settings.specs.Flags.{flag_rule}
+use Rattle.hls_mend_laws.specs.declared.settings.MendSettings.{MendSettings}
 use Rattle.hls_settings.specs.declared.fault.SettingsFault.{SettingsFault}
 use Rattle.hls_settings.specs.declared.window_settings.WindowSettings.{WindowSettings}
 use Rattle.hls_settings.specs.declared.thread_settings.ThreadSettings.{ThreadSettings}
@@ -29,11 +31,17 @@ timing_app = with_rule (with_rule (with_rule (with_rule named_app (value_rule (c
 unfoldable pub channel_app : App
 channel_app = with_rule timing_app (value_rule (codes "epoch"))
 
+unfoldable pub server_app : App
+server_app = with_rule (with_rule (with_rule (with_rule (with_rule (with_rule (with_rule channel_app (value_rule (codes "workers"))) (value_rule (codes "connections"))) (value_rule (codes "planners"))) (value_rule (codes "patience"))) (value_rule (codes "log"))) (value_rule (codes "run"))) (value_rule (codes "base"))
+
 unfoldable pub options_app : App
-options_app = with_rule (with_rule (with_rule (with_rule (with_rule (with_rule (with_rule channel_app (value_rule (codes "workers"))) (value_rule (codes "connections"))) (value_rule (codes "planners"))) (value_rule (codes "patience"))) (value_rule (codes "log"))) (value_rule (codes "run"))) (value_rule (codes "base"))
+options_app = with_rule (with_rule (with_rule (with_rule server_app (flag_rule (codes "mend"))) (value_rule (codes "snap"))) (value_rule (codes "fill"))) (value_rule (codes "wait"))
+
+unfoldable pub journal_app : App
+journal_app = with_rule (with_rule options_app (value_rule (codes "journal"))) (value_rule (codes "sync"))
 
 unfoldable pub serve_app : App
-serve_app = with_rule (with_rule options_app (new_rule (codes "address"))) (words_rule (codes "renditions"))
+serve_app = with_rule (with_rule journal_app (new_rule (codes "address"))) (words_rule (codes "renditions"))
 
 -- the texts among the matches
 abbrev pub texts_in : Found → Texts
@@ -49,6 +57,10 @@ texts_in found = record {
   idle_timeout_s = first_value found (codes "patience");
   log = first_value found (codes "log");
   run = first_value found (codes "run");
+  mend = first_value found (codes "mend");
+  snap = first_value found (codes "snap");
+  fill = first_value found (codes "fill");
+  wait = first_value found (codes "wait");
   address = first_value found (codes "address");
   renditions = option_map raw_values (matched_of found (codes "renditions"));
 }
@@ -61,6 +73,9 @@ timing_found found =
 abbrev pub workers_found : Found → Result ThreadSettings SettingsFault
 workers_found found =
     workers_of (first_value found (codes "workers")) (first_value found (codes "connections")) (first_value found (codes "planners")) (first_value found (codes "patience"))
+
+abbrev pub mending_found : Found → Result (Option MendSettings) SettingsFault
+mending_found found = mending_of (first_value found (codes "mend")) (first_value found (codes "snap")) (first_value found (codes "fill"))
 
 -- the texts of the arguments
 abbrev pub texts_of : List Row → Texts
@@ -76,6 +91,10 @@ texts_of rows = record {
   idle_timeout_s = first_of (codes "patience") rows;
   log = first_of (codes "log") rows;
   run = first_of (codes "run") rows;
+  mend = first_of (codes "mend") rows;
+  snap = first_of (codes "snap") rows;
+  fill = first_of (codes "fill") rows;
+  wait = first_of (codes "wait") rows;
   address = first_of (codes "address") rows;
   renditions = all_of (codes "renditions") rows;
 }

@@ -1,7 +1,9 @@
+pub mod Flags
 pub mod Numbers
 pub mod Renditions
 pub mod Addresses
-pub mod BaseArguments
+pub mod FileArguments
+pub mod JournalSettings
 pub mod ParsedArgs
 pub mod Settings
 pub mod WrongArguments

@@ -5,7 +5,6 @@ use Rattle.std.specs.Str.{bytes_eq}
 use Rattle.clap.specs.Words.{App, Row, Rule, Text, fault_of, first_of, first_value, found_of, matches_of, new_app, new_rule, with_rule}
 use Rattle.clap.specs.Kinds.{Kinds}
 use Rattle.clap.specs.declared.parser.matches.ArgMatches.{ArgMatches}
-use Rattle.clap.specs.declared.builder.action.ArgAction.TheVariants.{SetTrue}
 use Rattle.clap.specs.declared.error.kind.ErrorKind.{ErrorKind}
 use Rattle.clap.specs.declared.error.kind.ErrorKind.TheVariants as kinds
 use Rattle.hls_m3u8.specs.Uri.{IsUri, is_uri_text}
@@ -14,6 +13,7 @@ use Rattle.hls_text.specs.Digits.{number_of_digits}
 use Rattle.hls_settings.specs.declared.cut_options_fault.CutOptionsFault.{CutOptionsFault}
 use Rattle.hls_settings.specs.declared.cut_options_fault.CutOptionsFault.TheVariants as faults
 use Rattle.hls_settings.specs.Command.{value_rule, without_name}
+use Rattle.hls_settings.specs.Flags.{flag_rule, is_set}
 use Rattle.hls_settings.specs.Settings.{epoch_in}
 use Rattle.hls_settings.specs.WrongArguments.{cut_options, wrong_argument}
 use Rattle.hls_settings.specs.declared.wrong_argument.WrongArgument.{WrongArgument}
@@ -51,10 +51,6 @@ pub record IsGood (choice : CutOptionsData) : Type 0 where
   pub preferred : IsPreferredOf choice.target choice.preferred
   pub charge : IsCharge choice.charge
   pub epoch : IsEpoch choice.epoch
-
--- an option without a value
-abbrev pub flag_rule : Text → Rule
-flag_rule name = record (new_rule name) { long = Some name; action = Some SetTrue }
 
 abbrev pub named_app : App
 named_app = without_name (new_app (codes "cut"))
@@ -99,11 +95,6 @@ checked_uri text = cond (is_uri_text text) (Some text) None
 abbrev pub uri_in : Option Text → Option (List ℕ)
 uri_in None = checked_uri (codes "media.mp4")
 uri_in (Some text) = checked_uri text
-
--- an option without a value is given
-abbrev pub is_set : Option Text → Bool
-is_set None = false
-is_set (Some text) = bytes_eq text (codes "true")
 
 -- `--each` excludes `--preferred` and `--certificate`
 abbrev pub allows_each : Bool → Bool → Bool → Bool

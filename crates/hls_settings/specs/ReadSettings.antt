@@ -1,5 +1,6 @@
 -- The result of reading the arguments after `serve`.
-use Rattle.std.specs.Prelude.{◌≡◌, ◌⊎◌, ℕ, ℤ, List, [], ◌∷◌, map, take, slice_get, true, Option, Some, None, Result, Ok, Err, Vec}
+use Rattle.hls_mend_laws.specs.declared.settings.MendSettings.{MendSettings}
+use Rattle.std.specs.Prelude.{◌≡◌, ◌⊎◌, ℕ, ℤ, ◌*◌, max, List, [], ◌∷◌, map, take, slice_get, true, Option, Some, None, Result, Ok, Err, Vec}
 use Rattle.std.specs.declared.alloc.Global.{Global}
 use Rattle.clap.specs.Words.{Text, fault_of, found_of, matches_of}
 use Rattle.clap.specs.declared.parser.matches.ArgMatches.{ArgMatches}
@@ -52,18 +53,32 @@ ReadsRenditions arguments (Err (faults.Rendition n)) = IsFirstUnread arguments n
 ReadsRenditions arguments (Err faults.Memory) = Unit {0}
 ReadsRenditions arguments (Err _) = ⊥
 
+-- a tolerance of at least this many microseconds
+abbrev pub with_tolerance : ℕ → Rendition → Rendition
+with_tolerance least r = record r { tolerance = max r.tolerance least }
+
+abbrev pub tolerant_by : ℕ → List Rendition → List Rendition
+tolerant_by least [] = []
+tolerant_by least (first ∷ others) = first ∷ map (with_tolerance least) others
+
+-- the renditions of a channel whose units are mended: starts may be moved in opposite directions, so all but the first have a tolerance of at
+-- least twice that distance
+abbrev pub tolerant : Option MendSettings → List Rendition → List Rendition
+tolerant None renditions = renditions
+tolerant (Some settings) renditions = tolerant_by (2 * settings.snap_us) renditions
+
 -- renditions that a channel can't have: the first that is outside its limits
-pub record IsFirstOutside (arguments : List Text) (n : ℕ) : Type 0 where
+pub record IsFirstOutside (mending : Option MendSettings) (arguments : List Text) (n : ℕ) : Type 0 where
   pub renditions : List Rendition
   pub parses : ParsesTo arguments renditions
-  pub outside : IsFirstBadRendition renditions n
+  pub outside : IsFirstBadRendition (tolerant mending renditions) n
 
 -- the settings, if everything except the renditions is valid
 pub record IsConfigured (server : ServerSettings) (arguments : List Text) (settings : Settings) : Type 0 where
   pub plain_is : settings.server ≡ server
   pub renditions : List Rendition
   pub parses : ParsesTo arguments renditions
-  pub config : settings.config ≡ configured_from server.timing.target server.timing.preferred renditions server.epoch
+  pub config : settings.config ≡ configured_from server.timing.target server.timing.preferred (tolerant server.mending renditions) server.epoch
   pub valid : IsConfig settings.config
 
 abbrev pub Configures : WindowSettings → Option ℤ → List Rendition → Result Config SettingsFault → Type 0
@@ -74,7 +89,7 @@ Configures timing epoch renditions (Err _) = ⊥
 
 abbrev pub MakesSettings : ServerSettings → List Text → Result Settings SettingsFault → Type 0
 MakesSettings server arguments (Ok settings) = IsConfigured server arguments settings
-MakesSettings server arguments (Err (faults.Rendition n)) = IsFirstUnread arguments n ⊎ IsFirstOutside arguments n
+MakesSettings server arguments (Err (faults.Rendition n)) = IsFirstUnread arguments n ⊎ IsFirstOutside server.mending arguments n
 MakesSettings server arguments (Err faults.Memory) = Unit {0}
 MakesSettings server arguments (Err _) = ⊥
 

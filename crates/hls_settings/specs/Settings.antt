@@ -1,4 +1,6 @@
 -- The settings of `serve` from its arguments, or the first invalid one.
+use Rattle.hls_mend_laws.specs.declared.settings.MendSettings.{MendSettings}
+use Rattle.hls_settings.specs.Flags.{is_set}
 use Rattle.std.specs.Prelude.{ℕ, ◌*◌, List, Option, Some, None, Bool, true, false, ◌&&◌, option_and_then, cond, codes, Result, Ok, Err}
 use Rattle.std.specs.Prelude.{ℤ, option_map, pos, int_le}
 use Rattle.std.specs.Borrow.{Bor}
@@ -99,6 +101,10 @@ pub record Texts : Type 0 where
   pub idle_timeout_s : Option Text
   pub log : Option Text
   pub run : Option Text
+  pub mend : Option Text
+  pub snap : Option Text
+  pub fill : Option Text
+  pub wait : Option Text
   pub address : Option Text
   pub renditions : Option (List Text)
 
@@ -116,18 +122,44 @@ abbrev pub run_of : Option Text → Option (Option (List ℕ))
 run_of None = Some None
 run_of (Some text) = option_map (λ field. Some field) (run_field text)
 
-abbrev pub server_with : WindowSettings → Option ℤ → ThreadSettings → Bool → Option (List ℕ) → Option ListenAddress → Result ServerSettings SettingsFault
-server_with timing epoch workers logs run None = Err faults.Address
-server_with timing epoch workers logs run (Some address) =
-    Ok (record { timing = timing; epoch = epoch; workers = workers; logs_requests = logs; run = run; address = address })
+-- how far units are mended, if they are
+abbrev pub mending_with : Bool → ℕ → Option ℕ → Result (Option MendSettings) SettingsFault
+mending_with mends snap None = Err faults.Fill
+mending_with true snap (Some fill) = Ok (Some (record { snap_us = snap; fill_us = fill }))
+mending_with false snap (Some fill) = Ok None
 
-abbrev pub server_named : WindowSettings → Option ℤ → ThreadSettings → Bool → Option (Option (List ℕ)) → Option Text → Result ServerSettings SettingsFault
-server_named timing epoch workers logs None address = Err faults.Run
-server_named timing epoch workers logs (Some run) address = server_with timing epoch workers logs run (address_in address)
+abbrev pub mending_by : Bool → Option ℕ → Option Text → Result (Option MendSettings) SettingsFault
+mending_by mends None fill = Err faults.Snap
+mending_by mends (Some snap) fill = mending_with mends snap (number_or_default 0 3600000000 10000000 fill)
+
+-- by the texts of `--mend`, `--snap` and `--fill`; the numbers are in microseconds
+abbrev pub mending_of : Option Text → Option Text → Option Text → Result (Option MendSettings) SettingsFault
+mending_of mend snap fill = mending_by (is_set mend) (number_or_default 0 250000 5000 snap) fill
+
+-- for how long nothing may be heard of an encoder before its rendition is filled, in seconds
+abbrev pub wait_of : Option Text → Option ℕ
+wait_of text = number_or_default 1 3600 5 text
+
+abbrev pub server_with : WindowSettings → Option ℤ → ThreadSettings → Bool → Option (List ℕ) → Option MendSettings → ℕ → Option ListenAddress → Result ServerSettings SettingsFault
+server_with timing epoch workers logs run mending wait None = Err faults.Address
+server_with timing epoch workers logs run mending wait (Some address) =
+    Ok (record { timing = timing; epoch = epoch; workers = workers; logs_requests = logs; run = run; mending = mending; wait_s = wait; address = address })
+
+abbrev pub server_waiting : WindowSettings → Option ℤ → ThreadSettings → Bool → Option (List ℕ) → Option MendSettings → Option ℕ → Option Text → Result ServerSettings SettingsFault
+server_waiting timing epoch workers logs run mending None address = Err faults.Wait
+server_waiting timing epoch workers logs run mending (Some wait) address = server_with timing epoch workers logs run mending wait (address_in address)
+
+abbrev pub server_mending : WindowSettings → Option ℤ → ThreadSettings → Bool → Option (List ℕ) → Result (Option MendSettings) SettingsFault → Option ℕ → Option Text → Result ServerSettings SettingsFault
+server_mending timing epoch workers logs run (Err fault) wait address = Err fault
+server_mending timing epoch workers logs run (Ok mending) wait address = server_waiting timing epoch workers logs run mending wait address
+
+abbrev pub server_named : WindowSettings → Option ℤ → ThreadSettings → Bool → Option (Option (List ℕ)) → Texts → Result ServerSettings SettingsFault
+server_named timing epoch workers logs None t = Err faults.Run
+server_named timing epoch workers logs (Some run) t = server_mending timing epoch workers logs run (mending_of t.mend t.snap t.fill) (wait_of t.wait) t.address
 
 abbrev pub server_after : WindowSettings → Option ℤ → ThreadSettings → Option Bool → Texts → Result ServerSettings SettingsFault
 server_after timing epoch workers None t = Err faults.Log
-server_after timing epoch workers (Some logs) t = server_named timing epoch workers logs (run_of t.run) t.address
+server_after timing epoch workers (Some logs) t = server_named timing epoch workers logs (run_of t.run) t
 
 abbrev pub server_by : WindowSettings → Option ℤ → Result ThreadSettings SettingsFault → Texts → Result ServerSettings SettingsFault
 server_by timing epoch (Err fault) t = Err fault

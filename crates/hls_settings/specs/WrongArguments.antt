@@ -97,6 +97,8 @@ wrong_argument os free arguments = wrong_after os free [] arguments
 abbrev pub serve_options : OptionTable
 serve_options = map (λ name. (name, true)) (codes "target" ∷ codes "preferred" ∷ codes "window" ∷ codes "keep" ∷ codes "epoch" ∷ codes "workers"
     ∷ codes "connections" ∷ codes "planners" ∷ codes "patience" ∷ codes "log" ∷ codes "run" ∷ codes "base" ∷ [])
+    ++ (codes "mend", false) ∷ (codes "snap", true) ∷ (codes "fill", true) ∷ (codes "wait", true)
+    ∷ (codes "journal", true) ∷ (codes "sync", true) ∷ []
 
 abbrev pub cut_options : OptionTable
 cut_options = (codes "each", false) ∷ (codes "preferred", true) ∷ (codes "certificate", false) ∷ (codes "target", true) ∷ (codes "uri", true)

@@ -8,7 +8,7 @@ use clap::{Arg, ArgAction, Command};
 use std::alloc::{AllocError, Global};
 
 /// The options by their long names, and whether each takes a value.
-pub const OPTIONS: [(&str, bool); 12] = [
+pub const OPTIONS: [(&str, bool); 18] = [
     ("target", true),
     ("preferred", true),
     ("window", true),
@@ -21,6 +21,12 @@ pub const OPTIONS: [(&str, bool); 12] = [
     ("log", true),
     ("run", true),
     ("base", true),
+    ("mend", false),
+    ("snap", true),
+    ("fill", true),
+    ("wait", true),
+    ("journal", true),
+    ("sync", true),
 ];
 
 /// Builds an option by its long name, with or without a value.

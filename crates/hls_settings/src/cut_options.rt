@@ -4,7 +4,8 @@ ghost use Rattle.clap.specs.Words.{app_of, first_value, found_of, kind_of};
 ghost use Rattle.hls_check_tables.specs.Tables.{charge_limit, charge_of, rule_of as cost_rule_of, target_limit};
 ghost use Rattle.hls_core_laws.specs.Config.{IsEpoch, IsTarget};
 ghost use Rattle.hls_m3u8.specs.Uri.{IsUri};
-ghost use Rattle.hls_settings.specs.Options.{FindsOptions, IsCharge, IsPreferredOf, ReadsOptions, charge_in, check_together, checked_uri, choice_after, choice_by, cut_app, has_needed_preferred, is_set, preferred_in, refused_option, allows_each, target_in, uri_in};
+ghost use Rattle.hls_settings.specs.Options.{FindsOptions, IsCharge, IsPreferredOf, ReadsOptions, charge_in, check_together, checked_uri, choice_after, choice_by, cut_app, has_needed_preferred, preferred_in, refused_option, allows_each, target_in, uri_in};
+ghost use Rattle.hls_settings.specs.Flags.{is_set};
 
 use crate::command::with_options;
 use crate::cut_options_fault::CutOptionsFault;
@@ -163,7 +164,7 @@ fn read_uri<'a>(text: Option<&'a str>) -> Option<&'a str>
 }
 
 /// Whether an option without a value was given, by its text from `clap`.
-fn is_set(text: Option<&str>) -> bool
+pub(crate) fn is_set(text: Option<&str>) -> bool
     ensures { result ≡ is_set (option_map (λ t. t.now) text.entry) }
 {
     match text {

@@ -30,6 +30,12 @@ pub enum SettingsFault {
     Log,
     /// `--run` isn't 1 to 16 letters and digits.
     Run,
+    /// `--snap` isn't 0 to 250000 microseconds.
+    Snap,
+    /// `--fill` isn't 0 to 3600000000 microseconds.
+    Fill,
+    /// `--wait` isn't 1 to 3600 seconds.
+    Wait,
     /// The address isn't `a.b.c.d:port` in decimal.
     Address,
     /// The index of the first rendition that isn't `name:kind:bandwidth:tolerance`, is outside its limits, or has the name of an

@@ -3,15 +3,17 @@ ghost use Rattle.std.specs.Prelude.{◌≡◌, IfOk, Some};
 ghost use Rattle.hls_core_laws.specs.Config.{IsEpoch, IsTarget, IsPreferred};
 ghost use Rattle.clap.specs.Words.{found_of};
 ghost use Rattle.hls_settings.specs.Settings.{address_in, log_of, run_of, server_from, server_settings_of, text_of};
-ghost use Rattle.hls_settings.specs.Command.{texts_in, timing_found, workers_found};
+ghost use Rattle.hls_settings.specs.Command.{mending_found, texts_in, timing_found, workers_found};
 
 use crate::epoch::read_epoch;
 use crate::fault::SettingsFault;
 use crate::listen_address::{ListenAddress, read_address};
+use crate::mending::{read_mending, read_wait};
 use crate::thread_settings::{ThreadSettings, read_thread_settings};
 use crate::window_settings::{WindowSettings, read_window_settings};
 use clap::ArgMatches;
 use hls_core::base::Base;
+use hls_mend_laws::settings::MendSettings;
 
 /// The settings except the channel's renditions.
 #[derive(Clone, Copy, Drop)]
@@ -24,6 +26,10 @@ pub struct ServerSettings {
     pub logs_requests: bool,
     /// The name of the channel's run, filled up with zero bytes, if it is given.
     pub run: Option<[u8; 16]>,
+    /// How far units are mended, if they are.
+    pub mending: Option<MendSettings>,
+    /// For how long nothing may be heard of an encoder before its rendition is filled, in seconds. It matters only where units are mended.
+    pub wait_s: u32,
     pub address: ListenAddress,
 }
 
@@ -78,6 +84,17 @@ fn find_thread_settings(matches: &ArgMatches) -> Result<ThreadSettings, Settings
     )
 }
 
+/// Returns how far units are mended, if they are, by the matches of `clap`.
+fn find_mending(matches: &ArgMatches) -> Result<Option<MendSettings>, SettingsFault>
+    ensures { result ≡ mending_found (found_of matches.now) }
+{
+    read_mending(
+        matches.get_str("mend"),
+        matches.get_str("snap"),
+        matches.get_str("fill"),
+    )
+}
+
 /// Returns the settings with these durations and this epoch, or the first fault of the rest.
 fn build_server_settings(
     matches: &ArgMatches,
@@ -94,6 +111,10 @@ fn build_server_settings(
     let Some(run) = read_run(matches.get_str("run")) else {
         return Err(SettingsFault::Run);
     };
+    let mending = find_mending(matches)?;
+    let Some(wait_s) = read_wait(matches.get_str("wait")) else {
+        return Err(SettingsFault::Wait);
+    };
     let Some(address) = read_listen_address(matches.get_str("address")) else {
         return Err(SettingsFault::Address);
     };
@@ -103,6 +124,8 @@ fn build_server_settings(
         workers,
         logs_requests,
         run,
+        mending,
+        wait_s,
         address,
     })
 }

@@ -9,6 +9,7 @@ ghost use Rattle.hls_settings.specs.Settings.{server_settings_of};
 
 use crate::command::{OPTIONS, serve_command};
 use crate::fault::SettingsFault;
+use crate::mending::raise_tolerances;
 use crate::rendition_spec::{make_rendition, parse_spec};
 use crate::server_settings::{ServerSettings, read_server_settings};
 use crate::window_settings::WindowSettings;
@@ -88,7 +89,8 @@ fn make_settings(
     requires epoch { IsEpoch server.epoch }
     ensures { MakesSettings server (map (λ w. w.now) arguments.now) result }
 {
-    let renditions = read_renditions(alloc, arguments)?;
+    let mut renditions = read_renditions(alloc, arguments)?;
+    raise_tolerances(server.mending, &mut renditions);
     let config = make_config(alloc, server.timing, server.epoch, renditions)?;
     Ok(Settings { server, config })
 }

@@ -98,6 +98,11 @@ impl<'a, S: AsStr> Display for SettingsMessage<'a, SettingsFault, S> {
             SettingsFault::Patience => "--patience takes 1 to 3600 whole seconds",
             SettingsFault::Log => "--log takes the word requests",
             SettingsFault::Run => "--run takes 1 to 16 letters and digits",
+            SettingsFault::Snap => "--snap takes 0 to 250000 microseconds (5000 if not given)",
+            SettingsFault::Fill => {
+                "--fill takes 0 to 3600000000 microseconds (10000000 if not given)"
+            }
+            SettingsFault::Wait => "--wait takes 1 to 3600 whole seconds (5 if not given)",
             SettingsFault::Address => {
                 "give an address a.b.c.d:port before the renditions, as in 127.0.0.1:8080, without leading zeros"
             }

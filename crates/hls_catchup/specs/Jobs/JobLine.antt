@@ -1,6 +1,7 @@
 -- The status of a job, as one line.
-use Rattle.std.specs.Prelude.{ℕ, List, ◌++◌, length, codes, Option, Some, None, Result, Ok, Err}
+use Rattle.std.specs.Prelude.{ℕ, ◌+◌, List, ◌++◌, length, codes, Option, Some, None, Result, Ok, Err}
 use Rattle.std.specs.Fmt.{decimal}
+use Rattle.hls_core_laws.specs.State.{State}
 use Rattle.hls_check_tables.specs.Certificates.{ClaimData, CutClaim, NoneClaim}
 use Rattle.hls_catchup.specs.declared.fault.CatchFault.{CatchFault}
 use Rattle.hls_catchup.specs.FaultName.{catch_fault_name}
@@ -10,7 +11,11 @@ use Rattle.hls_catchup.specs.declared.jobs.job.Job.TheVariants.{Waiting, Running
 use Rattle.hls_catchup.specs.Jobs.Answers.{AnsweredData}
 use Rattle.hls_catchup.specs.Jobs.Files.{certificate_of}
 
--- the version, and the line's end
+-- the version of a state: the number of log entries, those that precede this process included
+abbrev pub served_version : State → ℕ
+served_version s = s.config.base.version + length s.log
+
+-- a version, and the line's end
 abbrev pub version_end : ℕ → List ℕ
 version_end version = codes " version " ++ decimal version ++ codes "\n"
 
@@ -27,7 +32,7 @@ result_line (Ok reply) version = reply_line reply version
 result_line (Err fault) version = codes "refused " ++ catch_fault_name fault ++ version_end version
 
 abbrev pub answer_line : AnsweredData → List ℕ
-answer_line a = result_line a.result (length a.state.log)
+answer_line a = result_line a.result (served_version a.state)
 
 -- none if memory ran out
 abbrev pub job_line : Job → Option (List ℕ)

@@ -1,14 +1,18 @@
 //! `serve`, from its arguments to its end.
 ghost use Rattle.std.specs.Prelude.{map};
-ghost use Rattle.hls_origin.specs.ServeRun.{EndsServe};
+ghost use Rattle.hls_origin.specs.ServeRun.{EndsServe, IsServed};
 
 use crate::serve::generate_run::generate_run;
 use crate::serve::load_base::{BaseFileFault, load_base};
 use hls_core::base::Base;
+use hls_core::snapshot::Snapshot;
 use hls_housekeeper::{OperatorLog, log_listening};
-use hls_server::{log_start, run_server};
-use hls_settings::{ListenAddress, Settings, SettingsFault, find_base_argument, read_settings};
-use std::alloc::Global;
+use hls_server::{NoFollower, ServerStart, log_start, run_server};
+use hls_settings::{
+    ListenAddress, Settings, SettingsFault, SyncFault, find_base_argument, find_journal_argument,
+    read_settings, read_sync_setting,
+};
+use std::alloc::{AllocError, Global};
 use std::convert::AsStr;
 use std::io::Eprint;
 use std::net::{Ipv4Addr, Net, SocketAddrV4, TcpListener, TcpStream};
@@ -26,6 +30,10 @@ pub enum ServeEnd {
     Usage(SettingsFault),
     /// The base can't be taken, and nothing was started: status 2.
     Base(BaseFileFault),
+    /// `--sync` is invalid, and nothing was started: status 2.
+    Sync(SyncFault),
+    /// `--journal` is given, which the program doesn't have yet, and nothing was started: status 1.
+    JournalFailed,
     /// Listening on the address failed: status 1.
     BindFailed,
     /// Out of memory: status 1.
@@ -72,8 +80,17 @@ fn with_base<R: Files + Clock>(
     })
 }
 
-/// Reads the arguments, listens, and serves. Logs to standard error where it listens, and the result of each encoder's body.
-pub fn run_serve<'a, S: AsStr, R>(rt: &R, alloc: Global, arguments: &'a [S]) -> ServeEnd
+/// Returns the start of a channel: it is empty.
+fn first_start(alloc: Global, settings: &Settings) -> Result<ServerStart<NoFollower>, AllocError> {
+    Ok(ServerStart {
+        snapshot: Snapshot::first(alloc, settings.config.share()?)?,
+        first_job: 1,
+        journal: None,
+    })
+}
+
+/// Listens, and serves a channel. Logs where it listens.
+fn serve_channel<R>(rt: &R, host: &HostRuntime, alloc: Global, settings: &Settings) -> ServeEnd
 where
     R: Net<Listener = TcpListener, Stream = TcpStream>
         + Threads
@@ -81,7 +98,40 @@ where
         + Clock
         + Eprint
         + Env
-        + Files
+        + Sync,
+    ensures { IsServed result }
+{
+    let Ok(listener) = TcpListener::bind(rt, socket_address(settings.server.address)) else {
+        return ServeEnd::BindFailed;
+    };
+    if let Ok(address) = listener.local_addr() {
+        log_listening(rt, address, settings);
+    }
+    log_start(&OperatorLog::new(host), alloc, settings);
+    let Ok(start) = first_start(alloc, settings) else {
+        return ServeEnd::Memory;
+    };
+    match run_server(rt, alloc, settings, &listener, None, start) {
+        Ok(()) => ServeEnd::Done,
+        Err(_) => ServeEnd::Memory,
+    }
+}
+
+/// Reads the arguments, listens, and serves; files are the host's. Logs to standard error where it listens, and the result of each
+/// encoder's body.
+pub fn run_serve<'a, S: AsStr, R>(
+    rt: &R,
+    host: &HostRuntime,
+    alloc: Global,
+    arguments: &'a [S],
+) -> ServeEnd
+where
+    R: Net<Listener = TcpListener, Stream = TcpStream>
+        + Threads
+        + Wait
+        + Clock
+        + Eprint
+        + Env
         + Sync,
     ensures { EndsServe (map S.text arguments.entry.now) result }
 {
@@ -90,19 +140,15 @@ where
         Err(SettingsFault::Memory) => return ServeEnd::Memory,
         Err(fault) => return ServeEnd::Usage(fault),
     };
-    let settings = match with_base(rt, settings, find_base_argument(arguments)) {
+    if let Err(fault) = read_sync_setting(arguments) {
+        return ServeEnd::Sync(fault);
+    }
+    if find_journal_argument(arguments).is_some() {
+        return ServeEnd::JournalFailed;
+    }
+    let settings = match with_base(host, settings, find_base_argument(arguments)) {
         Ok(settings) => settings,
         Err(fault) => return ServeEnd::Base(fault),
     };
-    let Ok(listener) = TcpListener::bind(rt, socket_address(settings.server.address)) else {
-        return ServeEnd::BindFailed;
-    };
-    if let Ok(address) = listener.local_addr() {
-        log_listening(rt, address, &settings);
-    }
-    log_start(&OperatorLog::new(rt), alloc, &settings);
-    match run_server(rt, alloc, &settings, &listener, None) {
-        Ok(()) => ServeEnd::Done,
-        Err(_) => ServeEnd::Memory,
-    }
+    serve_channel(rt, host, alloc, &settings)
 }

@@ -2,24 +2,29 @@ use Rattle.std.proofs.Common.{◌∙◌, Some, ap, rules, subst, sym}
 use Rattle.hls_api.specs.Acts.{ActsExtend, Knowledge}
 use Rattle.hls_api.specs.Exchanges.{params_of}
 use Rattle.hls_api.specs.Routes.{query_of}
-use Rattle.hls_connection.proofs.PlayerLaws.{responds_to_player}
+use Rattle.hls_connection.proofs.PlayerLaws.{responds_to_player, responds_to_programme}
 use Rattle.hls_connection.proofs.handlers.handle_route.Goals as goal
 
 pub returns-in-Finish-clause-answers : goal.returns-in-Finish-clause-answers
-returns-in-Finish-clause-answers g c = λ count h context there. rw c.in-Finish.is c.finish_rendition.ensures.answers
+returns-in-Finish-clause-answers g c = λ channel h context there. rw c.in-Finish.is c.finish_rendition.ensures.answers
 
 pub returns-in-CatchUp-clause-answers : goal.returns-in-CatchUp-clause-answers
-returns-in-CatchUp-clause-answers g c = λ count h context there.
+returns-in-CatchUp-clause-answers g c = λ channel h context there.
     rw c.in-CatchUp.is (c.add_catchup_job.ensures.answers (query_of h.target) (context.query (there ∙ ap Some c.in-CatchUp.is)))
 
 pub returns-in-Media-clause-answers : goal.returns-in-Media-clause-answers
-returns-in-Media-clause-answers g c = λ count h context there.
-    let response = rw (c.requested_range.ensures count h context) at c.media_response.ensures in rw c.in-Media.is (search rules)
+returns-in-Media-clause-answers g c = λ channel h context there.
+    let response = rw (c.requested_range.ensures channel h context) at c.media_response.ensures in rw c.in-Media.is (search rules)
+
+pub returns-in-Programme-clause-answers : goal.returns-in-Programme-clause-answers
+returns-in-Programme-clause-answers g c = λ channel h context there.
+    rw c.in-Programme.is (responds_to_programme (params_of channel h) c.in-Programme.start c.in-Programme.stop c.in-Programme.file c.args.acts.now c.look.new.acts
+    c.in_ok-state.state.value c.programme_response.result c.in_ok-state.ensures.looks c.programme_response.ensures)
 
 pub returns-in_default-route : goal.returns-in_default-route
 returns-in_default-route g c = record {
   act_steps = subst (λ (k : Knowledge). ActsExtend g.K.Keeper.other_actors (g.K.Keeper.known c.args.keeper.now) c.args.acts.now k c.look.new.acts)
       (sym c.show_player.ensures.known) c.in_ok-state.ensures.act_steps;
-  answers = λ count h context there. responds_to_player (params_of count h) c.args.route c.args.acts.now c.look.new.acts c.in_ok-state.state.value
-      c.show_player.result c.in_ok-state.ensures.looks (c.show_player.ensures.answers count h context there);
+  answers = λ channel h context there. responds_to_player (params_of channel h) c.args.route c.args.acts.now c.look.new.acts c.in_ok-state.state.value
+      c.show_player.result c.in_ok-state.ensures.looks (c.show_player.ensures.answers channel h context there);
 }

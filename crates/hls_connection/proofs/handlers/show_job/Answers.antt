@@ -3,6 +3,6 @@ use Rattle.hls_api.specs.{Exchanges.params_of, Routes.allows}
 use Rattle.hls_connection.proofs.handlers.show_job.Goals as goal
 
 pub returns-in-JobFile : goal.returns-in-JobFile
-returns-in-JobFile c = λ count h context.
-    let allowed : allows c.args.route (params_of count h).method ≡ true = ap (allows c.args.route) (sym context.head.method) ∙ (sym c.allows_method.ensures ∙ c.if-not-allows_method.false) in
-    rw (allowed, c.in-JobFile.is) (rw (c.requested_range.ensures count h context) at c.file_response.ensures)
+returns-in-JobFile c = λ channel h context.
+    let allowed : allows c.args.route (params_of channel h).method ≡ true = ap (allows c.args.route) (sym context.head.method) ∙ (sym c.allows_method.ensures ∙ c.if-not-allows_method.false) in
+    rw (allowed, c.in-JobFile.is) (rw (c.requested_range.ensures channel h context) at c.file_response.ensures)

@@ -7,6 +7,6 @@ returns c = λ h is.
     let target : c.request_target.result.now ≡ h.target = c.request_target.ensures is.target_ordered is.target_within ∙ is.target in record {
       text = c.args.text.now;
       head = is;
-      route = c.parse_route-route.ensures ∙ ap (route_of c.args.renditions) (c.split_target.ensures.path ∙ ap path_of target);
+      route = c.parse_route-route.ensures ∙ ap (route_of c.args.channel) (c.split_target.ensures.path ∙ ap path_of target);
       query = λ catch. rw (c.split_target.ensures.query, target) at (c.read_catchup_query.ensures catch);
     }

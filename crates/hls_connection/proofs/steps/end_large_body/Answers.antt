@@ -4,9 +4,9 @@ use Rattle.hls_connection.proofs.{AnswerLaws.replies_discarded, CallLaws.{sent_a
 use Rattle.hls_connection.proofs.steps.end_large_body.Goals as goal
 
 pub returns-clause-consistent : goal.returns-clause-consistent
-returns-clause-consistent g c = λ count ended old before unread receives received sent past_acts h.
-    let x = receives count h.rest h.text h.stage_is.0 in
-    let responds = c.refuse_request.ensures.responds count x.1.at.head (request_of count x.1.at.head).action x.1.at.is_context in
+returns-clause-consistent g c = λ channel ended old before unread receives received sent past_acts h.
+    let x = receives channel h.rest h.text h.stage_is.0 in
+    let responds = c.refuse_request.ensures.responds channel x.1.at.head (request_of channel x.1.at.head).action x.1.at.is_context in
     replied h h.stage_is.1 refl (replies_discarded x.1 _ (λ due is. (x.0, is)) (rw c.replace-acts.ensures.value at responds))
 
 pub returns-clause-acts : goal.returns-clause-acts

@@ -5,20 +5,20 @@ use Rattle.hls_connection.proofs.steps.step_handle.Goals.{in_default-handle_requ
 use Rattle.hls_connection.proofs.steps.step_handle.Goals as goal
 
 pub returns-in-Ok-clause-handles : goal.returns-in-Ok-clause-handles
-returns-in-Ok-clause-handles g c = λ nothing count stream first unread last x.
-    let answers = rw (nothing, c.in-Ok.is) at (c.handle_request.ensures.answers count x.at.head x.at.is_context x.route_is) in
+returns-in-Ok-clause-handles g c = λ nothing channel stream first unread last x.
+    let answers = rw (nothing, c.in-Ok.is) at (c.handle_request.ensures.answers channel x.at.head x.at.is_context x.route_is) in
     inr (inl (_, c.without_output-in-Ok.ensures, record { last = last; discarded = x; answers = answers }))
 
 pub returns-in_default-handle_request-clause-handles : goal.returns-in_default-handle_request-clause-handles
-returns-in_default-handle_request-clause-handles g c = λ nothing count stream first unread last x.
-    let request = request_of count x.at.head in
+returns-in_default-handle_request-clause-handles g c = λ nothing channel stream first unread last x.
+    let request = request_of channel x.at.head in
     let acts = c.handle_request.new.acts in
     let same : c.in_default-handle_request-1.response ≡ c.handle_request.result = elim c.in_default-handle_request-1.branch [ in_default-handle_request-via-in-Ok+else-not-is_complete w ↦ w.response-is ∙ sym w.in-Ok.is | in_default-handle_request-via-in-Err-1 w ↦ w.response-is ] in
-    let responds = rw nothing at (c.handle_request.ensures.answers count x.at.head x.at.is_context x.route_is) in
+    let responds = rw nothing at (c.handle_request.ensures.answers channel x.at.head x.at.is_context x.route_is) in
     inl (
       acts,
       replies_discarded x acts (λ due is. response_due request c.args.route acts c.handle_request.result due responds is)
-          (rw same at (c.respond.ensures.responds count x.at.head (continue_prefix x.at.head request.action) x.at.is_context)),
+          (rw same at (c.respond.ensures.responds channel x.at.head (continue_prefix x.at.head request.action) x.at.is_context)),
     )
 
 pub returns-in_default-handle_request-clause-act_steps : goal.returns-in_default-handle_request-clause-act_steps
@@ -33,7 +33,7 @@ returns-in_default-handle_request-clause-proceeds g c = sent_proceeds c.respond.
 -- ---- a response that waits
 
 pub returns-in-Some-clause-handles : goal.returns-in-Some-clause-handles
-returns-in-Some-clause-handles g c = λ nothing count stream first unread last x.
+returns-in-Some-clause-handles g c = λ nothing channel stream first unread last x.
     let head = c.args.context.head in
     let awaited = awaited_route c.args.route _ c.in-Some.id c.in-Some.deadline_ms (sym c.awaited_job.ensures ∙ c.in-Some.is) in
     let asked = wait_asked head.method head.wait c.args.now c.in-Some.deadline_ms awaited.1 in

@@ -13,7 +13,7 @@ returns-in-Ok-clause-consistent g c =
     let kept = c.last_taken.ensures.taken ∙ ap (λ (t : BufferTexts). t.taken) c.consume.ensures in
     let context = c.make_context-context.ensures found.1.tree (subst (λ (t : List ℕ). IsHead found.1.tree c.in-Ok.head t) (sym kept) found.1.is) in
     let reads = subst (λ (t : List ℕ). ReadsLimitedHead unread found.1.tree t) (sym consumed) found.1.reads in
-    c.start_request.ensures.consistent c.args.renditions c.args.ended unread c.consume.new.self.unread found.1.tree reads context
+    c.start_request.ensures.consistent c.args.channel c.args.ended unread c.consume.new.self.unread found.1.tree reads context
 
 pub returns-in-Err-Invalid-clause-consistent : goal.returns-in-Err-Invalid-clause-consistent
 returns-in-Err-Invalid-clause-consistent g c = λ received sent past_acts h.
@@ -31,7 +31,7 @@ returns-in-Err-Partial-clause-consistent g c = λ received sent past_acts h.
     let empty = c.is_empty.ensures ∙ ap (λ (t : List ℕ). length t == 0) c.unread-in-Err-Partial.ensures.unread in
     let unfinished = rw (c.in-Err-Partial.field-0-is, c.unread.ensures.unread) at c.in-Err-Partial.ensures in
     rw c.await_head.ensures (stays [] unread h h.stage_is.1 refl
-    (head_waits c.is_empty.result c.args.ended c.args.renditions h.rest h.text unread (sym empty) unfinished (h.stage_is.0, refl, h.stage_is.2)))
+    (head_waits c.is_empty.result c.args.ended c.args.channel h.rest h.text unread (sym empty) unfinished (h.stage_is.0, refl, h.stage_is.2)))
 
 pub returns-in-Ok-clause-turns : goal.returns-in-Ok-clause-turns
 returns-in-Ok-clause-turns g c =

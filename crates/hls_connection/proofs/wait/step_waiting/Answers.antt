@@ -17,15 +17,15 @@ returns-clause-answers g c =
     }
 
 pub returns-clause-consistent : goal.returns-clause-consistent
-returns-clause-consistent g c = λ count ended unread received sent past_acts h.
+returns-clause-consistent g c = λ channel ended unread received sent past_acts h.
     let x = h.stage_is.0 in
     let d = x.discarded in
-    let request = request_of count d.at.head in
+    let request = request_of channel d.at.head in
     let acts = c.args.waiting.now.acts in
     let made = waiting_made request.asks c.args.waiting.now.id c.get_job-found.result acts c.found_job_response-response.result x.waits x.asked c.get_job-found.ensures
-    (c.found_job_response-response.ensures count d.at.head d.at.is_context) in
+    (c.found_job_response-response.ensures channel d.at.head d.at.is_context) in
     replied h h.stage_is.1 refl (replies_discarded d acts (λ due is. response_due request (Job c.args.waiting.now.id) acts c.found_job_response-response.result due made is)
-    (rw c.replace-acts.ensures.value at (c.respond.ensures.responds count d.at.head (continue_prefix d.at.head request.action) d.at.is_context)))
+    (rw c.replace-acts.ensures.value at (c.respond.ensures.responds channel d.at.head (continue_prefix d.at.head request.action) d.at.is_context)))
 
 pub returns-clause-sends : goal.returns-clause-sends
 returns-clause-sends g c = rw c.replace-acts.ensures.value at c.respond.ensures.sends

@@ -7,5 +7,5 @@ invariant-loop g l = record {
   can_next : (goal.iterator-loop g).can_next l.iterator';
   is_finite : (goal.iterator-loop g).is_finite l.iterator';
   ours : l.pass.turn ≡ l.fn.turn;
-  keeps : RunsUpkeep l.fn.settings.server.timing.window l.fn.settings.server.timing.keep l.initial.pass.known l.pass.known;
+  keeps : RunsUpkeep l.fn.settings.server.mending l.fn.settings.server.timing.window l.fn.settings.server.timing.keep l.initial.pass.known l.pass.known;
 }

@@ -2,25 +2,25 @@ use Rattle.hls_housekeeper.proofs.Keeping.{kept_bringing, kept_looking, kept_sti
 use Rattle.hls_housekeeper.proofs.housekeeper.run_upkeep.Goals as goal
 
 pub loop-init : goal.loop-init
-loop-init g c = record { can_next = tt; is_finite = tt; ours = c.requires; keeps = kept_still _ _ _ }
+loop-init g c = record { can_next = tt; is_finite = tt; ours = c.requires; keeps = λ m. kept_still m _ _ _ }
 
 pub loop-preserved : goal.loop-preserved
 loop-preserved g c = record {
   can_next = tt;
   is_finite = tt;
   ours = c.submit_upkeep.ensures.ours;
-  keeps = kept_bringing _ _ _ _ _ (kept_looking _ _ _ _ _ c.loop.invariant.keeps c.next_event.ensures.looked) c.submit_upkeep.ensures.submits;
+  keeps = λ m. kept_bringing m _ _ _ _ _ (kept_looking m _ _ _ _ _ (c.loop.invariant.keeps m) c.next_event.ensures.looked) c.submit_upkeep.ensures.submits;
 }
 
 pub returns-in_err-event-clause-keeps : goal.returns-in_err-event-clause-keeps
-returns-in_err-event-clause-keeps g c = kept_looking _ _ _ _ _ c.loop.invariant.keeps c.next_event.ensures.looked
+returns-in_err-event-clause-keeps g c = λ m. kept_looking m _ _ _ _ _ (c.loop.invariant.keeps m) c.next_event.ensures.looked
 
 pub returns-in_default-clause-keeps : goal.returns-in_default-clause-keeps
-returns-in_default-clause-keeps g c = kept_looking _ _ _ _ _ c.loop.invariant.keeps c.next_event.ensures.looked
+returns-in_default-clause-keeps g c = λ m. kept_looking m _ _ _ _ _ (c.loop.invariant.keeps m) c.next_event.ensures.looked
 
 pub returns-then-resting-clause-keeps : goal.returns-then-resting-clause-keeps
-returns-then-resting-clause-keeps g c = kept_looking _ _ _ _ _ c.loop.invariant.keeps c.next_event.ensures.looked
+returns-then-resting-clause-keeps g c = λ m. kept_looking m _ _ _ _ _ (c.loop.invariant.keeps m) c.next_event.ensures.looked
 
 pub returns-in_err-submit_upkeep-clause-keeps : goal.returns-in_err-submit_upkeep-clause-keeps
 returns-in_err-submit_upkeep-clause-keeps g c =
-    kept_bringing _ _ _ _ _ (kept_looking _ _ _ _ _ c.loop.invariant.keeps c.next_event.ensures.looked) c.submit_upkeep.ensures.submits
+    λ m. kept_bringing m _ _ _ _ _ (kept_looking m _ _ _ _ _ (c.loop.invariant.keeps m) c.next_event.ensures.looked) c.submit_upkeep.ensures.submits

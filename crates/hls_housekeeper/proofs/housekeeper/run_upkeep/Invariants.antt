@@ -1,4 +1,5 @@
-use Rattle.std.proofs.Common.{◌≡◌}
+use Rattle.std.proofs.Common.{◌≡◌, Option}
+use Rattle.hls_mend_laws.specs.declared.settings.MendSettings.{MendSettings}
 use Rattle.hls_housekeeper.specs.Housekeeping.{RunsUpkeep}
 use Rattle.hls_housekeeper.proofs.housekeeper.run_upkeep.Given as goal
 
@@ -7,5 +8,5 @@ invariant-loop g l = record {
   can_next : (goal.iterator-loop g).can_next l.iterator';
   is_finite : (goal.iterator-loop g).is_finite l.iterator';
   ours : l.pass.turn ≡ l.fn.turn;
-  keeps : RunsUpkeep l.timing.window l.timing.keep l.initial.pass.known l.pass.known;
+  keeps : (m : Option MendSettings) → RunsUpkeep m l.timing.window l.timing.keep l.initial.pass.known l.pass.known;
 }

@@ -1,19 +1,13 @@
-use Rattle.std.proofs.Common.{◌≡◌, ℕ, ◌<◌, List, Some, None, length, get_or, refl, sym, ap, ◌∙◌, subst}
+use Rattle.std.proofs.Common.{◌≡◌, List, Some, None, sym, ap, ◌∙◌, subst}
 use Rattle.std.specs.Prelude.{option_map, slice_get}
-use Rattle.std.proofs.lemmas.Option.{slice_get_read, slice_get_past}
+use Rattle.std.proofs.lemmas.Option.{slice_get_past}
 use Rattle.hls_catchup.specs.declared.cut_result.CutResult.{CutResult}
 use Rattle.hls_m3u8.specs.declared.playlist.MediaPlaylist.{MediaPlaylist}
 use Rattle.hls_m3u8.specs.Playlist.{playlist_of}
 use Rattle.hls_m3u8.specs.Lines.{media_text}
 use Rattle.hls_catchup.specs.Jobs.Files.{playlist_in}
-use Rattle.hls_jobs.proofs.Lists.{list_has_text}
+use Rattle.hls_jobs.proofs.Lists.{list_has_text, list_there}
 use Rattle.hls_jobs.proofs.files.playlist_text.Goals as goal
-
--- the playlist that was read at a rendition's number
-list_there : (lists read : List MediaPlaylist) (rendition : ℕ) (list : MediaPlaylist) → read ≡ lists → rendition < length read → list ≡ get_or read rendition list →
-    slice_get lists rendition ≡ Some list
-list_there lists read rendition list same within is =
-    subst (λ (ls : List MediaPlaylist). slice_get ls rendition ≡ Some list) same (slice_get_read read (length read) rendition list refl within is)
 
 pub write_media-requires : goal.write_media-requires
 write_media-requires c =

@@ -4,4 +4,4 @@ use Rattle.hls_server.proofs.server.run_server.Goals as goal
 
 pub run_threads-ran-requires-after_bounds : goal.run_threads-ran-requires-after_bounds
 run_threads-ran-requires-after_bounds g c κs within =
-    subst (λ (l : List PassData). All (λ (p : PassData). p.turn ≡ c.in_ok-turn.turn) l) (sym c.in_ok-turn.ensures) (all_opening c.in_ok-turn.turn c.in_ok-snapshot.snapshot _)
+    subst (λ (l : List PassData). All (λ (p : PassData). p.turn ≡ c.in_ok-turn.turn) l) (sym c.in_ok-turn.ensures) (all_opening c.in_ok-turn.turn _ _)

@@ -17,4 +17,4 @@ returns-in-Err-submit-clause-yields g c =
     let is : IsInit c.args.bytes c.in-Ok.init = search rules in
     let x = progress_of c.args.taken.now in
     rw c.into_feed_fault.ensures
-    (init_refused c.args.self.now.rendition x (record x { acts = c.submit.new.acts }) c.args.bytes c.in-Ok.init c.in-Err-submit.refusal is refl c.in-Err-submit.ensures.submits)
+    (init_refused c.args.self.now.encoder.rendition x (record x { acts = c.submit.new.acts }) c.args.bytes c.in-Ok.init c.in-Err-submit.refusal is refl c.in-Err-submit.ensures.submits)

@@ -8,7 +8,7 @@ pub submit-requires : goal.submit-requires
 submit-requires g c =
     let is : IsUnit c.in-Some.init c.args.bytes c.in-Ok.facts = search rules in
     let found : c.find_init.new.taken.init ≡ Some c.in-Some.init = search rules in
-    fits_unit c.args.self.now.rendition (g.K.Keeper.known c.find_init.new.keeper) c.find_init.new.taken.init c.in-Some.init c.in-Ok.facts c.args.bytes c.find_init.ensures.usable found is
+    fits_unit c.args.self.now.encoder.rendition (g.K.Keeper.known c.find_init.new.keeper) c.find_init.new.taken.init c.in-Some.init c.in-Ok.facts c.args.bytes c.find_init.ensures.usable found is
 
 pub returns-in-Ok-submit-clause-usable : goal.returns-in-Ok-submit-clause-usable
 returns-in-Ok-submit-clause-usable g c = usable_acted _ _ _ _ _ _ _ c.submit.ensures.act_steps c.find_init.ensures.usable
@@ -27,5 +27,5 @@ returns-in-Err-submit-clause-yields g c =
     let is : IsUnit c.in-Some.init c.args.bytes c.in-Ok.facts = search rules in
     let found : c.find_init.new.taken.init ≡ Some c.in-Some.init = search rules in
     let y = progress_of c.find_init.new.taken in
-    rw c.into_feed_fault.ensures (unit_refused c.args.self.now.rendition (progress_of c.args.taken.now) y (record y { acts = c.submit.new.acts }) c.args.bytes c.in-Some.init c.in-Ok.facts
+    rw c.into_feed_fault.ensures (unit_refused c.args.self.now.encoder.rendition (progress_of c.args.taken.now) y (record y { acts = c.submit.new.acts }) c.args.bytes c.in-Some.init c.in-Ok.facts
     c.in-Err-submit.refusal c.in_ok-find_init.ensures.finds found is refl c.in-Err-submit.ensures.submits)

@@ -36,7 +36,7 @@ returns-in-More-clause-advances g c =
     let r = c.receive_some.ensures in
     let suits = rw c.in-Receive.is at c.requires.suits in
     rw c.in-Receive.is (advances_within _ (receiving_trace (trace_at m c.args.input.now.unread) c.in-Receive.receiving) _ c.receive_some.new.input.unread suits
-    (receives c.receive_some.new.input.unread (λ stream first x. c.in-More.ensures.receives m.renditions stream first x)) r.act_steps (r.usable, r.for_target suits.body.1))
+    (receives c.receive_some.new.input.unread (λ stream first x. c.in-More.ensures.receives m.channel stream first x)) r.act_steps (r.usable, r.for_target suits.body.1))
 
 pub returns-in-Wait-clause-advances : goal.returns-in-Wait-clause-advances
 returns-in-Wait-clause-advances g c =
@@ -44,7 +44,7 @@ returns-in-Wait-clause-advances g c =
     let r = c.receive_some.ensures in
     let suits = rw c.in-Receive.is at c.requires.suits in
     rw c.in-Receive.is (advances_within _ (receiving_trace (trace_at m c.args.input.now.unread) c.in-Receive.receiving) _ c.receive_some.new.input.unread suits
-    (receives c.receive_some.new.input.unread (λ stream first x. (c.in-Wait.ensures.receives m.renditions stream first x).0)) r.act_steps (r.usable, r.for_target suits.body.1))
+    (receives c.receive_some.new.input.unread (λ stream first x. (c.in-Wait.ensures.receives m.channel stream first x).0)) r.act_steps (r.usable, r.for_target suits.body.1))
 
 -- ---- a body that is over, or of which no more comes: it is cut short, too large, or ended
 
@@ -56,7 +56,7 @@ returns-in-Wait-2-clause-advances g c =
     let suits = rw c.in-Receive.is at c.requires.suits in
     advances_to (c.apply.ensures.trace unread) (rw c.in-Receive.is
     (advances_step _ (receiving_trace (trace_at m c.args.input.now.unread) c.in-Receive.receiving) c.cut_body_short-step.result unread suits empty
-    (rw c.cut_body_short-step.ensures (λ received sent past_acts h. cuts unread h refl c.if-not-self.false (c.in-Wait-2.ensures.receives m.renditions h.rest h.text h.stage_is.0)))
+    (rw c.cut_body_short-step.ensures (λ received sent past_acts h. cuts unread h refl c.if-not-self.false (c.in-Wait-2.ensures.receives m.channel h.rest h.text h.stage_is.0)))
     (rw (c.cut_body_short-step.ensures, append-nil) c.receive_some.ensures.act_steps) (rw c.cut_body_short-step.ensures tt)))
 
 pub returns-in-Wait-2-clause-idle_or_blocked : goal.returns-in-Wait-2-clause-idle_or_blocked
@@ -70,7 +70,7 @@ returns-in-TooLarge-clause-advances g c =
     let suits = rw c.in-Receive.is at c.requires.suits in
     advances_to (c.apply-in-TooLarge.ensures.trace unread) (rw c.in-Receive.is
     (advances_step _ (receiving_trace (trace_at m c.args.input.now.unread) c.in-Receive.receiving) c.end_large_body-step.result unread suits empty
-    (c.end_large_body-step.ensures.consistent m.renditions m.ended _ _ _ c.in-TooLarge.ensures.receives)
+    (c.end_large_body-step.ensures.consistent m.channel m.ended _ _ _ c.in-TooLarge.ensures.receives)
     (rw c.end_large_body-step.ensures.acts c.receive_some.ensures.act_steps) (c.end_large_body-step.ensures.proceeds.suits _)))
 
 pub returns-in-TooLarge-clause-lowers : goal.returns-in-TooLarge-clause-lowers
@@ -89,7 +89,7 @@ returns-in-Done-clause-advances g c =
     let suits = rw c.in-Receive.is at c.requires.suits in
     advances_to (c.apply-in-Done.ensures.trace unread) (rw c.in-Receive.is
     (advances_step _ (receiving_trace (trace_at m c.args.input.now.unread) c.in-Receive.receiving) c.end_body-step.result unread suits empty
-    (c.end_body-step.ensures.consistent m.renditions m.ended _ _ _ c.in-Done.ensures.receives)
+    (c.end_body-step.ensures.consistent m.channel m.ended _ _ _ c.in-Done.ensures.receives)
     (acted_on _ _ _ _ _ _ _ c.receive_some.ensures.act_steps c.end_body-step.ensures.act_steps) (c.end_body-step.ensures.proceeds.suits _)))
 
 pub returns-in-Done-clause-lowers : goal.returns-in-Done-clause-lowers
@@ -139,7 +139,7 @@ returns-in-Wait-state-clause-advances g c =
     let suits = rw c.in-Wait-state.is at c.requires.suits in
     let sends = c.in-Some.ensures.sends in
     advances_to (c.apply-in-Wait-state.ensures.trace unread) (rw c.in-Wait-state.is
-    (advances_step _ (waiting_trace (trace_at m unread) c.in-Wait-state.waiting) c.in-Some.step unread suits empty (c.in-Some.ensures.consistent m.renditions m.ended unread)
+    (advances_step _ (waiting_trace (trace_at m unread) c.in-Wait-state.waiting) c.in-Some.step unread suits empty (c.in-Some.ensures.consistent m.channel m.ended unread)
     (rw (sent_acts sends) (acted_none _ _ _)) (sent_suits sends _)))
 
 pub returns-in-Wait-state-clause-lowers : goal.returns-in-Wait-state-clause-lowers

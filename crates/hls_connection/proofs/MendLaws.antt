@@ -1,0 +1,157 @@
+-- What is submitted for the parts of a body whose units are mended.
+use Rattle.std.proofs.Common.{◌≡◌, ◌∙◌, ◌<◌, ◌≤◌, ◌+◌, ◌^◌, ℕ, Some, None, Option, Result, Ok, Err, inl, inr, List, [], ◌∷◌, ◌++◌, All, length, get_or, take, refl, sym, subst, ap}
+use Rattle.std.proofs.lemmas.{List.{take_all, take_more}, List.Elements.All-get_or}
+use Rattle.hls_media_laws.specs.{InitData.InitData, declared.facts.Facts.Facts, declared.fault.MediaFault.MediaFault, IsInitOrUnit.{IsUnit, UnitsAreBounded}, UnitFacts.facts}
+use Rattle.hls_core_laws.specs.{declared.event.Event.TheVariants.Accept, Moves.IsFittingAsSeen}
+use Rattle.hls_core.specs.declared.feed_fault.FeedFault.{FeedFault}
+use Rattle.hls_core.specs.declared.feed_fault.StreamFault.{StreamFault}
+use Rattle.hls_core.specs.declared.feed_fault.StreamFault.TheVariants.{Media}
+use Rattle.hls_mend_laws.specs.declared.settings.MendSettings.{MendSettings}
+use Rattle.hls_mend.specs.{MendedUnits.mended_view, declared.mended.MendedUnit.MendedUnit, declared.mended.ReadUnit.ReadUnit}
+use Rattle.hls_api.specs.declared.ingest.IngestCounts.{IngestCounts}
+use Rattle.hls_api.specs.Acts.{Act, AtMostOne, IsLook, Knowledge, Looked}
+use Rattle.hls_api.specs.Ingest.{ChoosesInit, DecidesUnit, FindsInit, HandlesPart, MendsInit, MendsPart, Progress, RefusesUnitBefore, StopsBeforeUnit, SubmitsFiller, SubmitsFillers, end_after}
+use Rattle.hls_connection.{specs.IngestStates.{FindsInitOrFails, IsUsable}, proofs.PassLaws.{fits_unit, found_init}}
+use Rattle.hls_connection.specs.MendingStates.{ChoosesInitOrFails, DecidesUnitOrFails, HasReadUnit, IsPrepared, PreparesOrStops, SubmitsFillerOrFails, SubmitsFillersOrFail, SubmitsMended, with_acts, with_counts}
+use Rattle.hls_boxes.specs.declared.part.Part.TheVariants as parts
+use Rattle.hls_core.specs.declared.feed_fault.FeedFault.TheVariants as feed_faults
+
+-- ---- init sections
+
+-- no init section was chosen
+pub fails_to_choose : (r : ℕ) (x y : Progress) (bytes : List ℕ) (fault : FeedFault) → ChoosesInitOrFails r x bytes y (Err fault) → MendsInit r x bytes y (Err fault)
+fails_to_choose r x y bytes (feed_faults.Refused fault) fails = absurd fails
+fails_to_choose r x y bytes feed_faults.Memory looks = (y.acts, looks, (y.acts, inl refl, inl refl))
+
+-- the one that was chosen is handled as any other
+pub mends_init : (r : ℕ) (x z y : Progress) (bytes chosen : List ℕ) (result : Result (Unit {0}) FeedFault) → z ≡ with_acts x z.acts → ChoosesInit r x bytes chosen z.acts
+    → HandlesPart r z (parts.Init chosen) y result → y.end ≡ z.end → MendsInit r x bytes y result
+mends_init r x z y bytes chosen (Ok done) same chooses handles end =
+    (chosen, z.acts, chooses, subst (λ (p : Progress). HandlesPart r p (parts.Init chosen) y (Ok done)) same handles, end ∙ ap (λ (p : Progress). p.end) same)
+mends_init r x z y bytes chosen (Err (feed_faults.Refused fault)) same chooses handles end =
+    (chosen, z.acts, chooses, subst (λ (p : Progress). HandlesPart r p (parts.Init chosen) y (Err (feed_faults.Refused fault))) same handles, end ∙ ap (λ (p : Progress). p.end) same)
+mends_init r x z y bytes chosen (Err feed_faults.Memory) same chooses handles end = (z.acts, inr (Looked chooses.state, tt, chooses.looks), handles)
+
+-- ---- what is submitted for a unit
+
+-- no init section was found
+pub stops_finding : (settings : MendSettings) (r : ℕ) (x y : Progress) (bytes : List ℕ) (fault : FeedFault) → FindsInitOrFails r x y (Err fault) → StopsBeforeUnit settings r x bytes y (Err fault)
+stops_finding settings r x y bytes (feed_faults.Refused fault) (counts, is, early) = (subst (λ (f : StreamFault). RefusesUnitBefore r x bytes f y.acts) (sym is) early, counts)
+stops_finding settings r x y bytes feed_faults.Memory looks = inl (y.acts, looks, (y.acts, inl refl, inl refl))
+
+-- the bytes are no unit
+pub stops_reading : (settings : MendSettings) (r : ℕ) (x y : Progress) (bytes : List ℕ) (init : InitData) (fault : MediaFault) → FindsInitOrFails r x y (Ok tt) → y.init ≡ Some init → facts init bytes ≡ Err fault
+    → StopsBeforeUnit settings r x bytes y (Err (feed_faults.Refused (Media fault)))
+stops_reading settings r x y bytes init fault found there unread = ((init, found_init r x y init found there, unread), found.0)
+
+-- the init section was looked up by at most one look
+found_looked : (r : ℕ) (x : Progress) (init : InitData) (z : List Act) → FindsInit r x init z → AtMostOne IsLook x.acts z
+found_looked r x init z (inl same) = inl same.1
+found_looked r x init z (inr looked) = inr (Looked looked.state, tt, looked.looks)
+
+-- the init section was found, the unit was read, and what is submitted is decided or not
+pub prepared : (settings : MendSettings) (r : ℕ) (x z y : Progress) (bytes : List ℕ) (init : InitData) (f : Facts) (result : Result MendedUnit FeedFault) → FindsInitOrFails r x z (Ok tt) → z.end ≡ x.end
+    → z.init ≡ Some init → IsUnit init bytes f → DecidesUnitOrFails settings r z (record { facts = f; bytes = bytes }) y result → PreparesOrStops settings r x bytes y result
+prepared settings r x z y bytes init f (Ok m) found end there unit (same, decides) = record {
+  init = init;
+  is = ap (λ (p : Progress). p.init) same ∙ there;
+  decided = record {
+    looked = z.acts;
+    finds = found_init r x z init found there;
+    facts = f;
+    reads = unit;
+    decides = subst (λ (e : Option ℕ). DecidesUnit settings r e init (record { facts = f; bytes = bytes }) z.acts (mended_view m) y.acts) end (decides init there);
+  };
+  counts = ap (λ (p : Progress). p.counts) same ∙ found.0;
+  end = ap (λ (p : Progress). p.end) same ∙ end;
+}
+prepared settings r x z y bytes init f (Err (feed_faults.Refused fault)) found end there unit fails = absurd fails
+prepared settings r x z y bytes init f (Err feed_faults.Memory) found end there unit looks = inl (z.acts, found_looked r x init z.acts (found_init r x z init found there), (y.acts, looks, inl refl))
+
+-- its facts are those under the rendition's init section
+pub fits_read_unit : (r : ℕ) (known : Knowledge) (found : Option InitData) (u : ReadUnit) → IsUsable r known found → HasReadUnit found u → IsFittingAsSeen known.seen (Accept r u.facts u.bytes)
+fits_read_unit r known None u usable reads = absurd reads
+fits_read_unit r known (Some init) u usable reads = fits_unit r known (Some init) init u.facts u.bytes usable refl reads
+
+-- .. and so they are within their bounds
+pub read_unit_ends : UnitsAreBounded → (found : Option InitData) (u : ReadUnit) → HasReadUnit found u → u.facts.start + u.facts.duration < 2 ^ 64
+read_unit_ends bounded None u reads = absurd reads
+read_unit_ends bounded (Some init) u reads = (bounded init u.bytes u.facts reads).end_fits
+
+-- ---- fillers
+
+-- nothing but acts and counts changed, and again nothing else
+pub counts_on : (x z y : Progress) → z ≡ with_counts x z.counts z.acts → y ≡ with_counts z y.counts y.acts → y ≡ with_counts x y.counts y.acts
+counts_on x z y first second = second ∙ ap (λ (p : Progress). with_counts p y.counts y.acts) first
+
+-- one filler more
+fillers_push : (r : ℕ) (us : List ReadUnit) (u : ReadUnit) (c counts more : IngestCounts) (before middle after : List Act) → SubmitsFillers r us c before counts middle
+    → SubmitsFiller r u counts middle more after → SubmitsFillers r (us ++ u ∷ []) c before more after
+fillers_push r [] u c counts more before middle after (same, counted) one =
+    (more, after, subst (λ (k : IngestCounts). SubmitsFiller r u k before more after) counted (subst (λ (acts : List Act). SubmitsFiller r u counts acts more after) same one), (refl, refl))
+fillers_push r (v ∷ vs) u c counts more before middle after (some, acts, first, others) one =
+    (some, acts, first, fillers_push r vs u some counts more acts middle after others one)
+
+-- .. the next one of a list
+pub fillers_more : (r : ℕ) (us : List ReadUnit) (n : ℕ) (u : ReadUnit) (c counts more : IngestCounts) (before middle after : List Act) → n < length us → u ≡ get_or us n u
+    → SubmitsFillers r (take n us) c before counts middle → SubmitsFiller r u counts middle more after → SubmitsFillers r (take (n + 1) us) c before more after
+fillers_more r us n u c counts more before middle after small is some one =
+    subst (λ (vs : List ReadUnit). SubmitsFillers r vs c before more after) (sym (take_more us n u small))
+    (subst (λ (v : ReadUnit). SubmitsFillers r (take n us ++ v ∷ []) c before more after) is (fillers_push r (take n us) u c counts more before middle after some one))
+
+-- .. whose facts are those under the rendition's init section
+pub read_filler : (found later : Option InitData) (us : List ReadUnit) (n : ℕ) (u : ReadUnit) → later ≡ found → n < length us → u ≡ get_or us n u → All (HasReadUnit found) us → HasReadUnit later u
+read_filler found later us n u same small is all =
+    subst (λ (i : Option InitData). HasReadUnit i u) (sym same) (subst (HasReadUnit found) (sym is) (All-get_or (HasReadUnit found) us n u small all))
+
+-- an allocation failed in one of them
+pub stops_in_fillers : (r : ℕ) (x z y : Progress) (us : List ReadUnit) (n : ℕ) (u : ReadUnit) (fault : FeedFault) → SubmitsFillers r (take n us) x.counts x.acts z.counts z.acts
+    → SubmitsFillerOrFails r z u y (Err fault) → SubmitsFillersOrFail r x us y (Err fault)
+stops_in_fillers r x z y us n u (feed_faults.Refused fault) some fails = absurd fails
+stops_in_fillers r x z y us n u feed_faults.Memory some fails = record { count = n; filled = z.counts; before = z.acts; fills = some; failed = fails }
+
+-- all of them were submitted
+pub fills_all : (r : ℕ) (x y : Progress) (us : List ReadUnit) (n : ℕ) → length us ≤ n → y ≡ with_counts x y.counts y.acts → SubmitsFillers r (take n us) x.counts x.acts y.counts y.acts
+    → SubmitsFillersOrFail r x us y (Ok tt)
+fills_all r x y us n all same some = (same, subst (λ (vs : List ReadUnit). SubmitsFillers r vs x.counts x.acts y.counts y.acts) (take_all n us all) some)
+
+-- ---- units
+
+-- nothing was decided
+pub stops_preparing : (settings : MendSettings) (r : ℕ) (x y : Progress) (bytes : List ℕ) (fault : FeedFault) → PreparesOrStops settings r x bytes y (Err fault) → MendsPart settings r x (parts.Unit bytes) y (Err fault)
+stops_preparing settings r x y bytes fault stops = inr stops
+
+-- an allocation failed in the fillers
+pub stops_filling : (settings : MendSettings) (r : ℕ) (x z y : Progress) (bytes : List ℕ) (m : MendedUnit) (fault : FeedFault) → IsPrepared settings r x bytes z m
+    → SubmitsFillersOrFail r z m.fillers.items y (Err fault) → MendsPart settings r x (parts.Unit bytes) y (Err fault)
+stops_filling settings r x z y bytes m (feed_faults.Refused fault) p fails = absurd fails
+stops_filling settings r x z y bytes m feed_faults.Memory p fails = inr (inr (record {
+  init = p.init;
+  mended = mended_view m;
+  seen = z.acts;
+  decided = p.decided;
+  count = fails.count;
+  filled = fails.filled;
+  before = fails.before;
+  fills = subst (λ (c : IngestCounts). SubmitsFillers r (take fails.count m.fillers.items) c z.acts fails.filled fails.before) p.counts fails.fills;
+  failed = fails.failed;
+}))
+
+-- the fillers and the unit were submitted
+pub mends_unit : (settings : MendSettings) (r : ℕ) (x z w y : Progress) (bytes : List ℕ) (m : MendedUnit) (result : Result (Unit {0}) FeedFault) → IsPrepared settings r x bytes z m
+    → SubmitsFillersOrFail r z m.fillers.items w (Ok tt) → SubmitsMended r w m.unit m.is_changed y result → MendsPart settings r x (parts.Unit bytes) y result
+mends_unit settings r x z w y bytes m result p (same, fills) s = inl (record {
+  init = p.init;
+  mended = mended_view m;
+  seen = z.acts;
+  decided = p.decided;
+  filled = w.counts;
+  before = w.acts;
+  fills = subst (λ (c : IngestCounts). SubmitsFillers r m.fillers.items c z.acts w.counts w.acts) p.counts fills;
+  answer = s.answer;
+  submits = s.submits;
+  counts = s.counts;
+  ends = s.ends ∙ ap (end_after m.unit.facts s.answer) (ap (λ (q : Progress). q.end) same ∙ p.end);
+  kept = s.kept ∙ ap (λ (q : Progress). q.init) same ∙ p.is;
+  result_is = s.result_is;
+})

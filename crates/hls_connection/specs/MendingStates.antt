@@ -1,0 +1,77 @@
+-- How far a part was taken of a body whose units are mended.
+use Rattle.std.specs.Prelude.{◌≡◌, ℕ, Bool, Option, Some, None, Result, Ok, Err, List, take}
+use Rattle.hls_media_laws.specs.{InitData.InitData, IsInitOrUnit.IsUnit}
+use Rattle.hls_core_laws.specs.declared.{event.Event.TheVariants.Accept, refusal.Refusal.Refusal, done.Done.Done}
+use Rattle.hls_core.specs.declared.feed_fault.FeedFault.{FeedFault}
+use Rattle.hls_mend_laws.specs.declared.settings.MendSettings.{MendSettings}
+use Rattle.hls_mend.specs.{MendedUnits.mended_view, declared.mended.MendedUnit.MendedUnit, declared.mended.ReadUnit.ReadUnit}
+use Rattle.hls_api.specs.declared.ingest.IngestCounts.{IngestCounts}
+use Rattle.hls_api.specs.Acts.{Act, AtMostOne, IsFailedSubmit, IsLook, RecordsSubmit}
+use Rattle.hls_api.specs.Ingest.{ChoosesInit, DecidesPart, DecidesUnit, Progress, StopsBeforeUnit, SubmitsFiller, SubmitsFillers, end_after, mended_result, with_mended}
+use Rattle.hls_core.specs.declared.feed_fault.FeedFault.TheVariants as feed_faults
+
+-- nothing changes but the acts; or the acts and the counts
+abbrev pub with_acts : Progress → List Act → Progress
+with_acts x acts = record x { acts = acts }
+
+abbrev pub with_counts : Progress → IngestCounts → List Act → Progress
+with_counts x counts acts = record x { acts = acts; counts = counts }
+
+-- a unit's facts under the init section that was found
+abbrev pub HasReadUnit : Option InitData → ReadUnit → Type 0
+HasReadUnit None u = ⊥
+HasReadUnit (Some init) u = IsUnit init u.bytes u.facts
+
+-- the init section to submit is found; or an allocation failed
+abbrev pub ChoosesInitOrFails : ℕ → Progress → List ℕ → Progress → Result (List ℕ) FeedFault → Type 0
+ChoosesInitOrFails r x bytes y (Ok chosen) = (y ≡ with_acts x y.acts) × ChoosesInit r x bytes chosen y.acts
+ChoosesInitOrFails r x bytes y (Err (feed_faults.Refused fault)) = ⊥
+ChoosesInitOrFails r x bytes y (Err feed_faults.Memory) = AtMostOne IsLook x.acts y.acts
+
+-- what is submitted for a unit is decided; or an allocation failed
+abbrev pub DecidesUnitOrFails : MendSettings → ℕ → Progress → ReadUnit → Progress → Result MendedUnit FeedFault → Type 0
+DecidesUnitOrFails settings r x u y (Ok mended) =
+    (y ≡ with_acts x y.acts) × ((init : InitData) → x.init ≡ Some init → DecidesUnit settings r x.end init u x.acts (mended_view mended) y.acts)
+DecidesUnitOrFails settings r x u y (Err (feed_faults.Refused fault)) = ⊥
+DecidesUnitOrFails settings r x u y (Err feed_faults.Memory) = AtMostOne IsLook x.acts y.acts
+
+-- what is submitted for a unit was decided, and nothing is submitted yet
+pub record IsPrepared (settings : MendSettings) (r : ℕ) (x : Progress) (bytes : List ℕ) (y : Progress) (mended : MendedUnit) : Type 0 where
+  pub init : InitData
+  pub is : y.init ≡ Some init
+  pub decided : DecidesPart settings r x bytes init (mended_view mended) y.acts
+  pub counts : y.counts ≡ x.counts
+  pub end : y.end ≡ x.end
+
+abbrev pub PreparesOrStops : MendSettings → ℕ → Progress → List ℕ → Progress → Result MendedUnit FeedFault → Type 0
+PreparesOrStops settings r x bytes y (Ok mended) = IsPrepared settings r x bytes y mended
+PreparesOrStops settings r x bytes y (Err fault) = StopsBeforeUnit settings r x bytes y (Err fault)
+
+-- a filler is submitted; or an allocation failed
+abbrev pub SubmitsFillerOrFails : ℕ → Progress → ReadUnit → Progress → Result (Unit {0}) FeedFault → Type 0
+SubmitsFillerOrFails r x filler y (Ok done) = (y ≡ with_counts x y.counts y.acts) × SubmitsFiller r filler x.counts x.acts y.counts y.acts
+SubmitsFillerOrFails r x filler y (Err (feed_faults.Refused fault)) = ⊥
+SubmitsFillerOrFails r x filler y (Err feed_faults.Memory) = AtMostOne IsFailedSubmit x.acts y.acts
+
+-- an allocation failed after the first `count` fillers
+pub record StopsInFillers (r : ℕ) (x : Progress) (fillers : List ReadUnit) (after : List Act) : Type 0 where
+  pub count : ℕ
+  pub filled : IngestCounts
+  pub before : List Act
+  pub fills : SubmitsFillers r (take count fillers) x.counts x.acts filled before
+  pub failed : AtMostOne IsFailedSubmit before after
+
+-- fillers are submitted; or an allocation failed after some of them
+abbrev pub SubmitsFillersOrFail : ℕ → Progress → List ReadUnit → Progress → Result (Unit {0}) FeedFault → Type 0
+SubmitsFillersOrFail r x fillers y (Ok done) = (y ≡ with_counts x y.counts y.acts) × SubmitsFillers r fillers x.counts x.acts y.counts y.acts
+SubmitsFillersOrFail r x fillers y (Err (feed_faults.Refused fault)) = ⊥
+SubmitsFillersOrFail r x fillers y (Err feed_faults.Memory) = StopsInFillers r x fillers y.acts
+
+-- a unit is submitted, with this answer
+pub record SubmitsMended (r : ℕ) (x : Progress) (u : ReadUnit) (changed : Bool) (y : Progress) (result : Result (Unit {0}) FeedFault) : Type 0 where
+  pub answer : Result Done Refusal
+  pub submits : RecordsSubmit x.acts (Accept r u.facts u.bytes) answer y.acts
+  pub counts : y.counts ≡ with_mended changed answer x.counts
+  pub ends : y.end ≡ end_after u.facts answer x.end
+  pub kept : y.init ≡ x.init
+  pub result_is : result ≡ mended_result answer

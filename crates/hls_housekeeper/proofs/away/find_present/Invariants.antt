@@ -1,0 +1,6 @@
+use Rattle.std.proofs.Common.{◌≡◌}
+use Rattle.hls_housekeeper.specs.Away.{first_of, is_present}
+use Rattle.hls_housekeeper.proofs.away.find_present.Given as goal
+
+abbrev pub invariant-loop-rendition : goal.invariant-loop-rendition
+invariant-loop-rendition l = l.found ≡ first_of (is_present l.snapshot l.silent) l.rendition

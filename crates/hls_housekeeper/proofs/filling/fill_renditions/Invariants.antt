@@ -1,0 +1,9 @@
+use Rattle.std.proofs.Common.{◌≡◌, ℕ, Some}
+use Rattle.hls_housekeeper.specs.Housekeeping.{RunsUpkeep}
+use Rattle.hls_housekeeper.proofs.filling.fill_renditions.Given as goal
+
+abbrev pub invariant-loop-rendition : goal.invariant-loop-rendition
+invariant-loop-rendition g l = record {
+  ours : l.pass.turn ≡ l.fn.turn;
+  keeps : (window keep : ℕ) → RunsUpkeep (Some l.fn.target.settings) window keep l.fn.pass.known l.pass.known;
+}

@@ -1,0 +1,133 @@
+-- Which renditions are away, and how far each is filled: up to the next boundary of a rendition that is present.
+use Rattle.std.specs.Prelude.{ℕ, zero, suc, ◌+◌, ◌-◌, ◌*◌, ◌/◌, ◌^◌, nat_le, min, Bool, true, false, not, ◌&&◌, if◌then◌else◌, is_some, Option, Some, None, List, length, drop, slice_index_or}
+use Rattle.std.specs.Option.{option_map, option_or}
+use Rattle.std.specs.List.{find}
+use Rattle.hls_media_laws.specs.declared.facts.Facts.{Facts}
+use Rattle.hls_media_laws.specs.FactLists.{fact_at, last_end}
+use Rattle.hls_media_laws.specs.InitData.{timing_track}
+use Rattle.hls_record.specs.RecordingData.{RecordingData}
+use Rattle.hls_core_laws.specs.State.{State}
+use Rattle.hls_core_laws.specs.declared.event.Event.{Event, TheVariants.Accept}
+use Rattle.hls_core.specs.Getters.{recording_of, finished_at}
+use Rattle.hls_mend.specs.MendedUnits.{is_audio, span_filler}
+use Rattle.hls_mend.specs.declared.mended.ReadUnit.{ReadUnit}
+
+-- ---- open, present and away
+
+abbrev pub unfinished : Option Bool → Option RecordingData → Option RecordingData
+unfinished (Some true) rec = None
+unfinished finished rec = rec
+
+-- the recording of a rendition that has begun and isn't finished
+abbrev pub open_at : State → ℕ → Option RecordingData
+open_at s r = unfinished (finished_at s r) (recording_of s r)
+
+-- whether nothing was heard of the rendition's encoder for too long
+abbrev pub is_silent : List Bool → ℕ → Bool
+is_silent silent r = slice_index_or silent r false
+
+-- the recording of a rendition whose encoder is there
+abbrev pub present_at : State → List Bool → ℕ → Option RecordingData
+present_at s silent r = if is_silent silent r then None else open_at s r
+
+-- the recording of a rendition that is away
+abbrev pub away_at : State → List Bool → ℕ → Option RecordingData
+away_at s silent r = if is_silent silent r then open_at s r else None
+
+-- ---- how far all that are there have come
+
+-- the end of the last unit in microseconds; 0 if there is none
+abbrev pub end_us_of : RecordingData → ℕ
+end_us_of rec = (fact_at rec.facts (length rec.facts - 1)).end_us
+
+abbrev pub earlier : Option ℕ → Option ℕ → Option ℕ
+earlier None b = b
+earlier (Some a) None = Some a
+earlier (Some a) (Some b) = Some (min a b)
+
+-- the least end of those of the first n renditions that are there
+unfoldable pub least_end : State → List Bool → ℕ → Option ℕ
+least_end s silent zero = None
+least_end s silent (suc r) = earlier (least_end s silent r) (option_map end_us_of (present_at s silent r))
+
+-- ---- the leader
+
+-- the first of the first n renditions that passes
+unfoldable pub first_of : (ℕ → Bool) → ℕ → Option ℕ
+first_of test zero = None
+first_of test (suc r) = option_or (first_of test r) (if test r then Some r else None)
+
+abbrev pub is_video_in : Option RecordingData → Bool
+is_video_in None = false
+is_video_in (Some rec) = not (is_audio rec.init)
+
+abbrev pub is_present_video : State → List Bool → ℕ → Bool
+is_present_video s silent r = is_video_in (present_at s silent r)
+
+abbrev pub is_present : State → List Bool → ℕ → Bool
+is_present s silent r = is_some (present_at s silent r)
+
+-- boundaries are those of the first video that is there, or else of the first rendition that is there
+abbrev pub leader : State → List Bool → ℕ → Option ℕ
+leader s silent n = option_or (first_of (is_present_video s silent) n) (first_of (is_present s silent) n)
+
+abbrev pub leader_from : State → List Bool → Option ℕ → Option RecordingData
+leader_from s silent None = None
+leader_from s silent (Some r) = present_at s silent r
+
+-- its recording
+abbrev pub leader_at : State → List Bool → ℕ → Option RecordingData
+leader_at s silent n = leader_from s silent (leader s silent n)
+
+-- ---- boundaries
+
+-- a unit that begins with a sync sample, at least so long after the end
+abbrev pub is_boundary : ℕ → ℕ → Facts → Bool
+is_boundary end_us least_us f = f.sync && nat_le least_us (f.start_us - end_us)
+
+-- the first boundary among the last 4096 units
+abbrev pub next_boundary : ℕ → ℕ → List Facts → Option Facts
+next_boundary end_us least_us fs = find (is_boundary end_us least_us) (drop (length fs - 4096) fs)
+
+-- how far after a rendition's end the next boundary is, at least, in microseconds: where audio leads, a second, since each of its units is
+-- a boundary; and audio is continued by some frames at least
+abbrev pub least_span_us : Bool → Bool → ℕ
+least_span_us true audio = 1000000
+least_span_us false true = 100000
+least_span_us false false = 1
+
+-- a boundary up to which all that are there have come, and which is at most `fill_us` after the end
+abbrev pub within : ℕ → ℕ → ℕ → Option Facts → Option Facts
+within fill_us limit_us end_us None = None
+within fill_us limit_us end_us (Some f) = if nat_le f.start_us limit_us && nat_le (f.start_us - end_us) fill_us then Some f else None
+
+-- the boundary up to which a rendition is filled
+abbrev pub fill_end : ℕ → ℕ → RecordingData → RecordingData → Option Facts
+fill_end fill_us limit_us lead rec =
+    within fill_us limit_us (end_us_of rec) (next_boundary (end_us_of rec) (least_span_us (is_audio lead.init) (is_audio rec.init)) lead.facts)
+
+-- ---- fillers
+
+-- a time in ticks at another scale, rounded up
+abbrev pub rescaled : ℕ → ℕ → ℕ → ℕ
+rescaled ticks from to = (ticks * to + (from - 1)) / from
+
+-- from the rendition's end to the boundary, in ticks of the rendition
+abbrev pub span_ticks : RecordingData → RecordingData → Facts → ℕ
+span_ticks lead rec f = min (rescaled f.start (timing_track lead.init).scale (timing_track rec.init).scale - last_end rec.facts) (2 ^ 64 - 1)
+
+abbrev pub filler_to : RecordingData → RecordingData → Option Facts → Option ReadUnit
+filler_to lead rec None = None
+filler_to lead rec (Some f) = span_filler rec (span_ticks lead rec f)
+
+abbrev pub next_filler : ℕ → Option ℕ → Option RecordingData → Option RecordingData → Option ReadUnit
+next_filler fill_us (Some limit_us) (Some lead) (Some rec) = filler_to lead rec (fill_end fill_us limit_us lead rec)
+next_filler fill_us limit_us lead rec = None
+
+-- the filler that a rendition needs next, if it is away and others are there
+unfoldable pub filler_of : ℕ → State → List Bool → ℕ → Option ReadUnit
+filler_of fill_us s silent r =
+    next_filler fill_us (least_end s silent (length s.config.renditions)) (leader_at s silent (length s.config.renditions)) (away_at s silent r)
+
+abbrev pub accept_of : ℕ → ReadUnit → Event
+accept_of r u = Accept r u.facts u.bytes

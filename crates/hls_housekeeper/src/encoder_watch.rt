@@ -1,0 +1,114 @@
+//! Watches the encoders: which renditions are silent for too long, and what the operator has to know of them.
+
+use crate::alert::{Alert, AlertChange};
+use crate::display::DisplayName;
+use crate::operator_log::OperatorLog;
+use crate::progress::MOST_RENDITIONS;
+use crate::server_status::ServerStatus;
+use crate::warnings::{log_away, log_returned};
+use hls_core::snapshot::Snapshot;
+use hls_core_laws::rendition::Rendition;
+use std::io::Eprint;
+
+/// What is known of the encoders.
+#[derive(Clone, Copy)]
+pub struct EncoderWatch {
+    /// Since when each rendition is open and watched, in milliseconds of the clock; 0 if it isn't.
+    since: [u64; MOST_RENDITIONS],
+    /// For each rendition, whether nothing was heard of its encoder for too long.
+    pub silent: [bool; MOST_RENDITIONS],
+    /// The number of fillers of each rendition since its encoder is away.
+    pub fillers: [u64; MOST_RENDITIONS],
+    away: [Alert; MOST_RENDITIONS],
+}
+
+/// Whether a rendition has begun and isn't finished.
+fn is_open(snapshot: &Snapshot, rendition: usize) -> bool {
+    snapshot.recording(rendition).is_some() && snapshot.is_finished(rendition) == Some(false)
+}
+
+impl EncoderWatch {
+    /// Nothing is known.
+    pub fn new() -> EncoderWatch {
+        EncoderWatch {
+            since: [0; MOST_RENDITIONS],
+            silent: [false; MOST_RENDITIONS],
+            fillers: [0; MOST_RENDITIONS],
+            away: [Alert::new(); MOST_RENDITIONS],
+        }
+    }
+
+    /// Finds the renditions of whose encoders nothing was heard for more than `wait_ms`, and logs the news. Where nothing is heard of any,
+    /// there is none that the others wait for.
+    pub fn update<E: Eprint, H: ServerStatus>(
+        &mut self,
+        log: &OperatorLog<'_, E>,
+        renditions: &[Rendition],
+        snapshot: &Snapshot,
+        status: &H,
+        clock: WatchClock,
+    ) {
+        let mut is_any_present = false;
+        for number in 0..renditions.len().min(MOST_RENDITIONS) {
+            let silence_ms = self.silence_ms(number, snapshot, status, clock.now);
+            self.silent[number] = silence_ms > clock.wait_ms;
+            is_any_present |= self.since[number] > 0 && !self.silent[number];
+        }
+        for number in 0..renditions.len().min(MOST_RENDITIONS) {
+            let name = DisplayName(&renditions[number].name);
+            self.log_news(log, number, name, is_any_present, clock.now);
+        }
+    }
+
+    /// How long nothing was heard of a rendition's encoder, in milliseconds; 0 if the rendition isn't open.
+    fn silence_ms<H: ServerStatus>(
+        &mut self,
+        number: usize,
+        snapshot: &Snapshot,
+        status: &H,
+        now: u64,
+    ) -> u64 {
+        if number >= MOST_RENDITIONS {
+            return 0;
+        }
+        if !is_open(snapshot, number) {
+            self.since[number] = 0;
+            return 0;
+        }
+        if self.since[number] == 0 {
+            self.since[number] = now;
+        }
+        let heard = status.last_heard_ms(number).max(self.since[number]);
+        now.saturating_sub(heard)
+    }
+
+    /// Logs that a rendition is away, at most once a minute, and that its encoder is back.
+    fn log_news<E: Eprint>(
+        &mut self,
+        log: &OperatorLog<'_, E>,
+        number: usize,
+        name: DisplayName<'_>,
+        is_any_present: bool,
+        now: u64,
+    ) {
+        if number >= MOST_RENDITIONS {
+            return;
+        }
+        let is_away = self.silent[number] && is_any_present;
+        match self.away[number].update(is_away, true, now) {
+            AlertChange::Raised => log_away(log, name, self.fillers[number]),
+            AlertChange::Cleared => {
+                log_returned(log, name, self.fillers[number]);
+                self.fillers[number] = 0;
+            }
+            AlertChange::Unchanged => {}
+        }
+    }
+}
+
+/// A moment of the clock, and how long nothing may be heard of an encoder, in milliseconds.
+#[derive(Clone, Copy)]
+pub struct WatchClock {
+    pub now: u64,
+    pub wait_ms: u64,
+}

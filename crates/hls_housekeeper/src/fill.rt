@@ -1,0 +1,164 @@
+//! Makes the filler that a rendition needs next.
+
+ghost use Rattle.std.specs.Prelude.{◌≡◌, ◌<◌, option_map, IfOk, IfSome, length};
+ghost use Rattle.std.specs.Option.{option_copied};
+ghost use Rattle.hls_core_laws.specs.Moves.{IsFittingAsSeen};
+ghost use Rattle.hls_media_laws.specs.{FactLists.fact_at, IsInitOrUnit.IsUnit};
+ghost use Rattle.hls_housekeeper.specs.Away.{accept_of, away_at, fill_end, filler_of, filler_to, is_boundary as is_boundary_at, leader_at, least_span_us as least_span, next_boundary as next_boundary_of, next_filler, rescaled, span_ticks as ticks_of_span, within as within_time};
+
+use crate::away::{away_recording, end_us, find_leader, is_audio, least_end, present_recording};
+use hls_core::snapshot::Snapshot;
+use hls_core_laws::event::Event;
+use hls_media_laws::facts::Facts;
+use hls_mend::make_span_filler;
+use hls_mend::mended::ReadUnit;
+use hls_record::Recording;
+use std::alloc::{AllocError, Global};
+
+/// How many of the leader's last units are looked at.
+const MOST_UNITS: u64 = 4096;
+
+/// Whether a unit begins with a sync sample, at least so long after the end.
+fn is_boundary(end_us: u64, least_us: u64, facts: Facts) -> bool
+    ensures { result ≡ is_boundary_at end_us least_us facts }
+{
+    facts.sync && least_us <= facts.start_us.saturating_sub(end_us)
+}
+
+/// The first boundary that is at least so long after the end.
+fn find_boundary(recording: &Recording, end_us: u64, least_us: u64) -> Option<Facts>
+    ensures { result ≡ next_boundary_of end_us least_us recording.now.facts }
+{
+    let count = recording.count();
+    let mut n = count.saturating_sub(MOST_UNITS);
+    'units: while n < count {
+        let facts = facts_at(recording, n);
+        if is_boundary(end_us, least_us, facts) {
+            return Some(facts);
+        }
+        n += 1;
+    }
+    None
+}
+
+/// The facts of unit `n`.
+fn facts_at(recording: &Recording, n: u64) -> Facts
+    requires { n < length recording.now.facts }
+    ensures { result ≡ fact_at recording.now.facts n }
+{
+    match recording.facts(n) {
+        Some(facts) => facts,
+        None => unreachable!(),
+    }
+}
+
+/// How far after a rendition's end the next boundary is, at least, in microseconds.
+fn least_span_us(leader_is_audio: bool, is_audio: bool) -> u64
+    ensures { result ≡ least_span leader_is_audio is_audio }
+{
+    match (leader_is_audio, is_audio) {
+        (true, _) => 1_000_000,
+        (false, true) => 100_000,
+        (false, false) => 1,
+    }
+}
+
+/// The boundary, if all that are there have come as far, and it is at most `fill_us` after the end.
+fn within(fill_us: u32, limit_us: u64, end_us: u64, found: Option<Facts>) -> Option<Facts>
+    ensures { result ≡ within_time fill_us limit_us end_us found }
+{
+    let facts = found?;
+    let gap_us = facts.start_us.saturating_sub(end_us);
+    if facts.start_us > limit_us || gap_us > u64::from(fill_us) {
+        return None;
+    }
+    Some(facts)
+}
+
+/// The boundary up to which a rendition is filled.
+#[tactic(auto, using(crate::proofs::FillLaws::nothing_within))]
+fn find_fill_end(
+    fill_us: u32,
+    limit_us: u64,
+    lead: &Recording,
+    recording: &Recording,
+) -> Option<Facts>
+    ensures { result ≡ fill_end fill_us limit_us lead.now recording.now }
+{
+    let end = end_us(recording);
+    let least = least_span_us(is_audio(lead), is_audio(recording));
+    // nothing is looked for before all have come far enough
+    if limit_us.saturating_sub(end) < least {
+        return None;
+    }
+    within(fill_us, limit_us, end, find_boundary(lead, end, least))
+}
+
+/// From the rendition's end to a unit of the leader, in ticks.
+fn span_ticks(lead: &Recording, recording: &Recording, facts: Facts) -> u64
+    ensures { result ≡ ticks_of_span lead.now recording.now facts }
+{
+    let from = u128::from(lead.init().timing_track().scale);
+    let to = u128::from(recording.init().timing_track().scale);
+    let end = (u128::from(facts.start) * to + (from - 1)) / from;
+    let span = end.saturating_sub(u128::from(recording.last_end()));
+    u64::try_from(span).unwrap_or(u64::MAX)
+}
+
+/// A filler up to the next boundary of the leader, if there is one.
+fn fill_to_boundary(
+    alloc: Global,
+    fill_us: u32,
+    limit_us: u64,
+    lead: &Recording,
+    recording: &Recording,
+) -> Result<Option<ReadUnit>, AllocError>
+    ensures value { IfOk result (λ o. o ≡ filler_to lead.now recording.now (fill_end fill_us limit_us lead.now recording.now)) }
+    ensures valid { IfOk result (λ o. IfSome o (λ u. IsUnit recording.now.init u.bytes u.facts)) }
+{
+    match find_fill_end(fill_us, limit_us, lead, recording) {
+        Some(facts) => make_span_filler(alloc, recording, span_ticks(lead, recording, facts)),
+        None => Ok(None),
+    }
+}
+
+/// The recording of the rendition whose boundaries the others are filled to.
+fn leader_recording<'a>(snapshot: &'a Snapshot, silent: &[bool]) -> Option<&'a Recording>
+    ensures { option_copied result ≡ leader_at snapshot.now silent.now (length snapshot.now.config.renditions) }
+{
+    match find_leader(snapshot, silent) {
+        Some(leader) => present_recording(snapshot, silent, leader),
+        None => None,
+    }
+}
+
+/// The filler that a rendition needs next, if it is away and others are there: up to the next boundary of these.
+#[tactic(auto, unfolding(crate::specs::Away::filler_of))]
+pub fn find_filler(
+    alloc: Global,
+    fill_us: u32,
+    snapshot: &Snapshot,
+    silent: &[bool],
+    rendition: usize,
+) -> Result<Option<Event>, AllocError>
+    ensures value { IfOk result (λ o. o ≡ option_map (accept_of rendition) (filler_of fill_us snapshot.now silent.now rendition)) }
+    ensures fits { IfOk result (λ o. IfSome o (λ event. IsFittingAsSeen snapshot.now event)) }
+{
+    let Some(recording) = away_recording(snapshot, silent, rendition) else {
+        return Ok(None);
+    };
+    let (Some(limit_us), Some(lead)) = (
+        least_end(snapshot, silent),
+        leader_recording(snapshot, silent),
+    ) else {
+        return Ok(None);
+    };
+    match fill_to_boundary(alloc, fill_us, limit_us, lead, recording)? {
+        Some(filler) => Ok(Some(Event::Accept {
+            rendition,
+            facts: filler.facts,
+            bytes: filler.bytes,
+        })),
+        None => Ok(None),
+    }
+}

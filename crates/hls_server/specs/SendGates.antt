@@ -1,0 +1,31 @@
+-- Bytes that are held back until the state that they were made of is durable.
+use Rattle.std.specs.Prelude.{◌≡◌, ◌⊎◌, ◌≤◌, ◌||◌, ℕ, Bool, false, List, [], ◌∷◌, length, cond, nat_lt, Option, None}
+use Rattle.hls_api.specs.Types.{State}
+use Rattle.hls_server.specs.declared.send_gate.SendGate.{SendGate}
+use Rattle.hls_server.specs.declared.send_gate.NeededPoint.{NeededPoint}
+
+-- the journal isn't as far as it must be
+abbrev pub is_closed : SendGate → Bool
+is_closed gate = nat_lt gate.durable.version gate.needed.version || nat_lt gate.durable.round gate.needed.round
+
+-- bytes are held back: there are some, and the gate is closed
+abbrev pub holds_back : SendGate → List ℕ → Bool
+holds_back gate [] = false
+holds_back gate (byte ∷ bytes) = is_closed gate
+
+-- the bytes that may be sent
+abbrev pub released : SendGate → List ℕ → List ℕ
+released gate bytes = cond (holds_back gate bytes) [] bytes
+
+-- .. and what is said of the connection once they are sent
+abbrev pub unless_held : {A : Type 0} → SendGate → List ℕ → Option A → Option A
+unless_held gate bytes end = cond (holds_back gate bytes) None end
+
+-- What must be durable covers the state that was seen: at least its version; else a round that hadn't begun must end, which looks at a
+-- later state.
+abbrev pub Covers : State → NeededPoint → Type 0
+Covers seen needed = needed.round ≡ 0 → length seen.log ≤ needed.version
+
+-- nothing more was seen and the same is needed, or what is needed covers what was seen
+abbrev pub KeepsCovered : State → NeededPoint → State → NeededPoint → Type 0
+KeepsCovered before was seen needed = ((seen ≡ before) × (needed ≡ was)) ⊎ Covers seen needed

@@ -1,0 +1,196 @@
+//! The thread that writes the states of a channel to its journal.
+
+ghost use Rattle.std.specs.Prelude.{◌≡◌};
+
+use crate::durability::Durability;
+use hls_core::snapshot::Snapshot;
+use hls_event_loop::WorkerLoads;
+use hls_housekeeper::ServerStatus;
+use hls_metrics::Measurements;
+use hls_metrics::measurements::store;
+use hls_time::monotonic_ms;
+use hls_turn::{Pass, Turn};
+use std::alloc::Global;
+use std::sync::Wait;
+use std::thread;
+use std::time::{Clock, Duration};
+
+/// How long the follower waits to be called, in milliseconds; a slide or a trim calls nobody.
+const LONGEST_WAIT_MS: u64 = 1000;
+
+/// The retry interval after a fault that passes, in milliseconds.
+const RETRY_MS: u64 = 1000;
+
+/// How many attempts in a row fail before the channel continues without its journal: nothing is sent meanwhile.
+const MOST_FAILURES: u64 = 5;
+
+/// Why nothing was written. The journal reports the cause itself.
+#[derive(Clone, Copy, Drop)]
+pub enum FollowFault {
+    /// It may pass: out of memory, or no room on the disk.
+    Retry,
+    /// Nothing more can be written.
+    Lost,
+}
+
+/// Writes the states of a channel to its journal, in order. Its calls may block on a disk.
+pub trait StateFollower {
+    /// Writes what a state has and the journal hasn't. Returns how many versions are durable, as far as the journal's settings ask.
+    fn follow(&mut self, snapshot: &Snapshot) -> Result<u64, FollowFault>;
+
+    /// Syncs what was written.
+    fn sync(&mut self) -> Result<(), FollowFault>;
+
+    /// Marks the journal as incomplete, since the channel continues without it.
+    fn abandon(&mut self);
+
+    /// Closes the journal; the snapshot is the last state.
+    fn close(&mut self, snapshot: &Snapshot);
+}
+
+/// A follower that writes nothing: each state that it was given counts as durable.
+#[derive(Drop)]
+pub struct NoFollower;
+
+impl StateFollower for NoFollower {
+    fn follow(&mut self, snapshot: &Snapshot) -> Result<u64, FollowFault> {
+        Ok(snapshot.version())
+    }
+
+    fn sync(&mut self) -> Result<(), FollowFault> {
+        Ok(())
+    }
+
+    fn abandon(&mut self) {}
+
+    fn close(&mut self, _snapshot: &Snapshot) {}
+}
+
+/// What the follower works with.
+#[derive(Clone, Copy)]
+pub(crate) struct FollowerContext<'a> {
+    pub alloc: Global,
+    pub turn: &'a Turn,
+    pub durability: &'a Durability,
+    pub worker_loads: &'a WorkerLoads,
+    pub measurements: &'a Measurements,
+    /// How often it is synced, in milliseconds, if it is by time.
+    pub sync_interval_ms: Option<u64>,
+}
+
+impl<'a> FollowerContext<'a> {
+    /// Writes a state, and releases what waited for it.
+    fn follow<F: StateFollower>(
+        &self,
+        follower: &mut F,
+        round: u64,
+        snapshot: &Snapshot,
+    ) -> Result<(), FollowFault> {
+        let version = snapshot.version();
+        self.measure_lag(version, self.durability.read().version);
+        let durable = follower.follow(snapshot)?;
+        self.measure_lag(version, durable);
+        self.durability.end_round(round, durable);
+        self.worker_loads.wake_waiting();
+        Ok(())
+    }
+
+    /// Stores how many of the versions aren't durable.
+    fn measure_lag(&self, version: u64, durable: u64) {
+        store(
+            &self.measurements.journal_lag,
+            version.saturating_sub(durable),
+        );
+    }
+
+    /// Looks at the state and writes it, or closes the journal with it. Returns when the journal was synced last; `None` once it is
+    /// closed.
+    fn run_round<R: Wait + Clock, F: StateFollower>(
+        &self,
+        rt: &R,
+        follower: &mut F,
+        pass: &mut Pass,
+        synced_ms: u64,
+        is_closed: bool,
+    ) -> Result<Option<u64>, FollowFault>
+        requires { pass.old.turn ≡ self.now.turn.now }
+        ensures { pass.new.turn ≡ self.now.turn.now }
+    {
+        let round = self.durability.begin_round();
+        let Ok(snapshot) = self.turn.look(rt, self.alloc, pass) else {
+            return Err(FollowFault::Retry);
+        };
+        if is_closed {
+            follower.close(&snapshot);
+            return Ok(None);
+        }
+        self.follow(follower, round, &snapshot)?;
+        let now = monotonic_ms(rt);
+        Ok(Some(sync_when_due(follower, self.sync_interval_ms, synced_ms, now)?))
+    }
+
+    /// Continues without a journal: nothing is held back any more.
+    fn abandon<F: StateFollower>(&self, follower: &mut F) {
+        follower.abandon();
+        self.durability.give_up();
+        self.worker_loads.wake_waiting();
+    }
+}
+
+/// Syncs the journal if that is due. Returns when it was synced last.
+fn sync_when_due<F: StateFollower>(
+    follower: &mut F,
+    sync_interval_ms: Option<u64>,
+    synced_ms: u64,
+    now: u64,
+) -> Result<u64, FollowFault> {
+    match sync_interval_ms {
+        Some(interval_ms) if synced_ms.saturating_add(interval_ms) <= now => {
+            follower.sync()?;
+            Ok(now)
+        }
+        _ => Ok(synced_ms),
+    }
+}
+
+/// Whether the channel continues without its journal after this number of failures in a row, of which this is the last.
+fn is_final(fault: FollowFault, failures: u64) -> bool {
+    matches!(fault, FollowFault::Lost) || failures >= MOST_FAILURES
+}
+
+/// Writes the states of a channel to its journal until the server has closed, or until the journal is lost. May wait.
+pub(crate) fn run_follower<R: Wait + Clock, F: StateFollower, H: ServerStatus>(
+    rt: &R,
+    context: FollowerContext<'_>,
+    follower: &mut F,
+    status: &H,
+    pass: &mut Pass,
+)
+    requires { pass.old.turn ≡ context.turn.now }
+{
+    let interval_ms = context.sync_interval_ms.unwrap_or(LONGEST_WAIT_MS);
+    let mut synced_ms = monotonic_ms(rt);
+    let mut failures: u64 = 0;
+    for _ in rt.forever() {
+        context
+            .durability
+            .wait_called(rt, interval_ms.min(LONGEST_WAIT_MS));
+        let is_closed = status.is_closed();
+        match context.run_round(rt, follower, pass, synced_ms, is_closed) {
+            Ok(Some(at)) => {
+                synced_ms = at;
+                failures = 0;
+            }
+            Ok(None) => return,
+            Err(fault) => {
+                failures = failures.saturating_add(1);
+                if is_final(fault, failures) {
+                    context.abandon(follower);
+                    return;
+                }
+                let _ = thread::sleep(rt, Duration::from_millis(RETRY_MS));
+                context.durability.call(rt);
+            }
+        }
+    }
+}
