@@ -4,10 +4,12 @@
 _hls_origin() {
     local word=${COMP_WORDS[COMP_CWORD]} command=${COMP_WORDS[1]-}
     if [ "$COMP_CWORD" -eq 1 ]; then
-        mapfile -t COMPREPLY < <(compgen -W "cut check lint explain serve help --help --version" -- "$word")
+        mapfile -t COMPREPLY < <(compgen -W "cut check lint explain serve size help --help --version" -- "$word")
     elif [ "$command" = explain ]; then
         mapfile -t COMPREPLY < <(compgen -W "$(hls_origin explain)" -- "$word")
-    elif [[ $word == -* && $command =~ ^(cut|check|lint|serve)$ ]]; then
+    elif [[ $word == -* && $command =~ ^(cut|check|lint|serve|size)$ ]]; then
+        # size takes the options of serve
+        command=${command/size/serve}
         # the options that stand under the command in the help
         mapfile -t COMPREPLY < <(compgen -W "$(hls_origin --help |
             sed -n "/^$command:/,/^[a-zE]/{/^  --/s/^  \(--[a-z]*\).*/\1/p}; /^$command:/,/^[a-zE]/d" |

@@ -468,7 +468,7 @@ def serve_options():
     text = re.search(r'const HELP: &str = "(.*?)(?<!\\)";', text_of(os.path.join(ROOT, "crates/hls_origin/src/main.rt")), re.S).group(1)
     part = re.search(r"(?ms)^serve: .*?(?=^Each option)", text).group(0)
     found = {}
-    for name, said in re.findall(r"(?ms)^  (--[\w-]+) \S+\s(.*?)(?=^  --|\Z)", part):
+    for name, said in re.findall(r"(?ms)^  (--[\w-]+)(?: \S+)?\s+(.*?)(?=^  --|\Z)", part):
         default = re.search(r"; (\d+)(?: if not given)?\s*\Z", said)
         limits = re.search(r"\d+ to \d+", said)
         found[name] = (default.group(1) if default else "", limits.group(0) if limits else "")
