@@ -110,7 +110,7 @@ fn response(
         RequestCase::Cached => cached_list_response(alloc, snapshot),
         RequestCase::Part => part(alloc, snapshot, RangeSpec::Between(0, 7)),
         RequestCase::Outside => part(alloc, snapshot, RangeSpec::From(2600)),
-        RequestCase::Ingested => ingested_response(alloc, true, COUNTS),
+        RequestCase::Ingested => ingested_response(alloc, false, COUNTS),
         RequestCase::Refused => ingest_refused_response(
             alloc,
             StreamFault::Core(Refusal::RecordingFull),
