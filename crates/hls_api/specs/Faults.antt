@@ -1,5 +1,5 @@
 -- The statuses of refused encoders' bodies; the names of the faults are a stream's (`hls_core/specs/FaultName.antt`).
-use Rattle.hls_core.specs.declared.feed_fault.StreamFault.TheVariants.{Boxes, Media, Core}
+use Rattle.hls_core.specs.declared.feed_fault.StreamFault.TheVariants.{Boxes, Media, Core, AheadOfChannel}
 use Rattle.hls_http.specs.declared.response_parts.Status.TheVariants.{BadRequest, NotFound, Conflict, ContentTooLarge, Unavailable, InsufficientStorage}
 use Rattle.hls_api.specs.Types.{Refusal, StreamFault, Status}
 use Rattle.hls_boxes.specs.declared.fault.BoxFault.TheVariants as boxes
@@ -20,4 +20,5 @@ status_of (Boxes boxes.TooLarge) = ContentTooLarge
 status_of (Boxes boxes.Memory) = Unavailable
 status_of (Media media.Memory) = Unavailable
 status_of (Core refusal) = core_status refusal
+status_of AheadOfChannel = Conflict
 status_of _ = BadRequest

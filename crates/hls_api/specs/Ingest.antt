@@ -3,7 +3,7 @@
 use Rattle.std.specs.Prelude.{◌≡◌, ◌≢◌, ◌⊎◌, ℕ, nat_eq, ◌+◌, ◌<◌, min, cond, Bool, true, false, not, List, [], ◌∷◌, ◌++◌, length, take, Option, Some, None, option_map, Result, Ok, Err, codes}
 use Rattle.std.specs.Fmt.{decimal}
 use Rattle.hls_boxes.specs.declared.part.Part.{Part}
-use Rattle.hls_core.specs.{declared.feed_fault.{StreamFault.TheVariants.{Boxes, Media, Core}, FeedFault.FeedFault}, Getters.recording_of}
+use Rattle.hls_core.specs.{declared.feed_fault.{StreamFault.TheVariants.{Boxes, Media, Core, AheadOfChannel}, FeedFault.FeedFault}, Getters.recording_of}
 use Rattle.hls_core.specs.Streams.{EndsStream, IsTaken, Refuses as RefusesAt, Wants}
 use Rattle.hls_media_laws.specs.{InitData.InitData, declared.facts.Facts.Facts, Inits.init_of, UnitFacts.facts}
 use Rattle.hls_media_laws.specs.IsInitOrUnit.{IsInit, IsUnit}
@@ -109,6 +109,7 @@ RefusesInit r before bytes (Boxes fault) z = ⊥
 RefusesInit r before bytes (Media fault) z = (init_of bytes ≡ Err fault) × (z ≡ before)
 RefusesInit r before bytes (Core refusal) z =
     (refusal ≢ Memory) × ((init : InitData) × IsInit bytes init × RecordsSubmit before (Begin r init bytes) (Err refusal) z)
+RefusesInit r before bytes AheadOfChannel z = ⊥
 
 -- a unit before any init section
 pub record IsTooEarly (r : ℕ) (x : Progress) (refusal : Refusal) (z : List Act) : Type 0 where
@@ -129,6 +130,7 @@ abbrev pub RefusesUnit : ℕ → Progress → List ℕ → StreamFault → List 
 RefusesUnit r x bytes (Boxes fault) z = ⊥
 RefusesUnit r x bytes (Media fault) z = (init : InitData) × FindsInit r x init z × (facts init bytes ≡ Err fault)
 RefusesUnit r x bytes (Core refusal) z = IsTooEarly r x refusal z ⊎ RefusesUnitAt r x bytes refusal z
+RefusesUnit r x bytes AheadOfChannel z = ⊥
 
 abbrev pub RefusesPart : ℕ → Progress → Part → StreamFault → List Act → Type 0
 RefusesPart r x (parts.Init bytes) fault z = RefusesInit r x.acts bytes fault z
@@ -248,6 +250,7 @@ abbrev pub RefusesUnitBefore : ℕ → Progress → List ℕ → StreamFault →
 RefusesUnitBefore r x bytes (Boxes fault) z = ⊥
 RefusesUnitBefore r x bytes (Media fault) z = (init : InitData) × FindsInit r x init z × (facts init bytes ≡ Err fault)
 RefusesUnitBefore r x bytes (Core refusal) z = IsTooEarly r x refusal z
+RefusesUnitBefore r x bytes AheadOfChannel z = ⊥
 
 -- the unit itself isn't submitted: it is no unit, it comes before any init section, or an allocation failed
 abbrev pub StopsBeforeUnit : MendSettings → ℕ → Progress → List ℕ → Progress → Result (Unit {0}) FeedFault → Type 0

@@ -23,7 +23,7 @@ pub fn refusal_status(refusal: Refusal) -> Status
 }
 
 /// Returns the status of the reply to a refused encoder's body: 413 for a part that is too large, 503 if out of memory, 400 for every
-/// other fault of a part, and else that of the channel's refusal.
+/// other fault of a part, 409 for a unit that is ahead of the channel, and else that of the channel's refusal.
 pub fn stream_fault_status(fault: StreamFault) -> Status
     ensures { result ≡ spec.status_of fault }
 {
@@ -32,6 +32,7 @@ pub fn stream_fault_status(fault: StreamFault) -> Status
         StreamFault::Boxes(BoxFault::Memory) => Status::Unavailable,
         StreamFault::Media(MediaFault::Memory) => Status::Unavailable,
         StreamFault::Core(refusal) => refusal_status(refusal),
+        StreamFault::AheadOfChannel => Status::Conflict,
         _ => Status::BadRequest,
     }
 }

@@ -3,6 +3,8 @@
 /// What each name means and what to change, in the order of the names. The last line has no line feed.
 pub const MEANINGS: &str = "\
 AfterRecording: the stop is behind the last place, and all renditions are finished. Ask for a stop up to the recording's end.
+AheadOfChannel: with serve --mend, a unit begins more than --fill after the newest end of all renditions while others go on: the \
+clock of its encoder is wrong. Set the clock; a channel whose encoders all jump goes on by itself.
 BadBox: a box of an init or a unit isn't as ISO/IEC 14496-12 has it: its children don't fill it, a field lies past its end, \
 a box is missing or stands twice, its version isn't known. Send the stream just as the encoder wrote it; if it was, change the encoder.
 BadCharge: the charge for a segment is above 3600000000. Give 0 to that, in microseconds, or none.

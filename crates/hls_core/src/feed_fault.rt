@@ -10,7 +10,7 @@ use std::alloc::AllocError;
 use std::fmt::{self, Display, Formatter, Write};
 use thiserror::Error;
 
-/// Why a stream is refused: by its boxes, by the content of a part, or by the channel's state.
+/// Why a stream is refused: by its boxes, by the content of a part, by the channel's state, or, where units are mended, by its clock.
 #[derive(Clone, Copy, Debug, PartialEq, Eq, Error)]
 pub enum StreamFault {
     /// It isn't a stream of boxes, or ends inside a part.
@@ -19,6 +19,8 @@ pub enum StreamFault {
     Media(MediaFault),
     /// The channel refuses a part: `NoInit` for a unit before any init section, `InitChanged`, `Overlap`, ..
     Core(Refusal),
+    /// A unit begins so far behind the newest end of all renditions that its clock is taken for wrong.
+    AheadOfChannel,
 }
 
 impl StreamFault {
@@ -30,6 +32,7 @@ impl StreamFault {
             StreamFault::Boxes(fault) => fault.name(),
             StreamFault::Media(fault) => fault.name(),
             StreamFault::Core(refusal) => refusal.name(),
+            StreamFault::AheadOfChannel => "AheadOfChannel",
         }
     }
 }

@@ -11,7 +11,6 @@ mod alert;
 mod away;
 mod coverage;
 mod display;
-mod encoder_signs;
 mod encoder_watch;
 mod fill;
 mod filling;
@@ -31,7 +30,6 @@ mod trim_backoff;
 mod warnings;
 
 pub use display::{DisplayName, DisplayNames, DisplaySettings};
-pub use encoder_signs::EncoderSigns;
 pub use housekeeper::run_housekeeper;
 pub use log_throttle::{LogThrottle, may_log};
 pub use memory::log_memory;

@@ -15,6 +15,7 @@ mod blank;
 mod box_splits;
 mod cuts;
 mod decide;
+mod encoder_signs;
 mod fillers;
 mod fragment;
 mod front;
@@ -36,6 +37,7 @@ mod write;
 
 pub use cuts::cut_unit;
 pub use decide::mend_unit;
+pub use encoder_signs::EncoderSigns;
 pub use fillers::{hold_unit, silent_unit};
 pub use gap::make_span_filler;
 pub use jumps::{is_accepted_jump, is_ahead_of_channel};

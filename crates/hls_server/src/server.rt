@@ -12,10 +12,11 @@ use hls_connection::shared_channel::SharedChannel;
 use hls_core::snapshot::Snapshot;
 use hls_event_loop::{WorkerIo, WorkerLoads, open_file_limit, run_worker, tune_listener};
 use hls_housekeeper::{
-    EncoderSigns, LogThrottle, OperatorLog, ServerStatus, ThreadCounts, log_ended_worker,
-    log_fewer_threads, run_housekeeper,
+    LogThrottle, OperatorLog, ServerStatus, ThreadCounts, log_ended_worker, log_fewer_threads,
+    run_housekeeper,
 };
 use hls_jobs::{Gate, Jobs, work_loop};
+use hls_mend::EncoderSigns;
 use hls_metrics::Measurements;
 use hls_settings::{Settings, ThreadSettings};
 use hls_turn::{Pass, Turn};
