@@ -8,14 +8,16 @@ use crate::batch::{Position, make_batch};
 use crate::fault::{EndCause, StoreFault};
 use crate::log_file::LogFile;
 use crate::media_files::MediaFiles;
+use crate::media_track::open_and_sync;
 use crate::records::{append_body, append_closed, append_point, sync_log, write_records};
+use crate::store_paths::StorePaths;
 use crate::sync_mode::SyncMode;
 use hls_core::snapshot::Snapshot;
 use hls_journal::make_ids_body;
 use hls_journal_log::Log;
 use sqlite_disk::Disk;
 use std::alloc::Global;
-use std::fs::File;
+use std::fs::{self, File};
 use std::io;
 use std::rt::Files;
 
@@ -36,8 +38,7 @@ pub struct Follower<D: Disk + Drop> {
     pub(crate) mode: SyncMode,
     /// Why the journal has ended.
     pub(crate) ended: Option<EndCause>,
-    /// The path of the folder's marker.
-    pub(crate) marker: String,
+    pub(crate) paths: StorePaths,
     /// Holds the folder's lock.
     pub(crate) lock: File,
 }
@@ -153,7 +154,11 @@ impl<D: Disk + Drop> Follower<D> {
 
     /// Marks the folder: players may see more of the channel than the log has. A start refuses a marked folder.
     pub fn mark<R: Files<File = File>>(&self, rt: &R) -> io::Result<()> {
-        File::create(rt, &self.marker)?.sync_all()
+        // a rename needs no room on the disk
+        if fs::rename(rt, &self.paths.spare, &self.paths.marker).is_err() {
+            File::create(rt, &self.paths.marker)?.sync_all()?;
+        }
+        open_and_sync(rt, &self.paths.folder)
     }
 
     /// Fails if the journal has ended.

@@ -1,14 +1,16 @@
 //! Reports what a journal's folder holds, and closes the journal of a process that has ended.
 
 use crate::batch::RENDITIONS;
-use crate::boot_id::{find_boot, read_boot_id};
+use crate::boot_id::read_boot_id;
 use crate::fault::{OpenFault, StorePart, open_fault};
 use crate::kept_units::{MediaIndex, find_kept_units};
 use crate::media_read::{freeze, make_zeros, read_unit};
 use crate::media_span::find_span;
 use crate::media_track::{media_path, open_and_sync};
 use crate::records::append_closed;
+use crate::start_record::{StartRecord, find_start};
 use crate::store_paths::{StorePaths, is_there};
+use crate::sync_mode::SyncMode;
 use bytes::Bytes;
 use hls_journal::{find_ids, is_closed};
 use hls_journal_log::{LogContent, begin_log, read_disk, read_log};
@@ -40,6 +42,8 @@ pub struct StoreReport {
     pub was_closed: bool,
     /// Whether the last process that wrote to it ran on this boot.
     pub same_boot: bool,
+    /// Whether players may have seen more, so that a start takes a new run.
+    pub may_lack: bool,
 }
 
 /// Reports what the journal in a folder holds. Changes nothing, and takes no lock.
@@ -52,6 +56,9 @@ pub fn inspect_store<R: Files<File = File>>(
     let text = read_file(rt, alloc, &paths.log)?;
     let content = read_log(alloc, &text)?;
     let index = find_kept_units(alloc, &content.bodies)?;
+    let boot = read_boot_id(rt);
+    let last = last_start(&content.bodies);
+    let was_closed = is_closed(&content.bodies);
     let mut report = StoreReport {
         is_marked: is_there(rt, &paths.marker),
         records: content.bodies.len(),
@@ -60,11 +67,17 @@ pub fn inspect_store<R: Files<File = File>>(
         units: index.units.len(),
         missing: 0,
         media_bytes: 0,
-        was_closed: is_closed(&content.bodies),
-        same_boot: find_boot(&content.bodies, [0; 16]) == read_boot_id(rt),
+        was_closed,
+        same_boot: last.boot == boot,
+        may_lack: last.may_lack(&boot, was_closed),
     };
     check_units(rt, alloc, &paths.media, &index, &mut report)?;
     Ok(report)
+}
+
+/// Returns what the last process that wrote has noted. A log without such a record is of no boot.
+fn last_start(bodies: &[Bytes]) -> StartRecord {
+    find_start(bodies, StartRecord::new([0; 16], SyncMode::Never, [0; 16]))
 }
 
 /// Counts the units that the media files have, and those that they don't have.
@@ -106,7 +119,8 @@ fn open_to_read<R: Files<File = File>>(rt: &R, path: &str) -> io::Result<(File, 
 }
 
 /// Closes the journal in a folder, of a process that has ended: writes that it was closed, and makes everything durable. What follows
-/// the last complete record is cut off. Does nothing if there is no record.
+/// the last complete record is cut off. Does nothing if there is no record, or if the process ran before the machine was restarted: what
+/// is missing then is for the next start to find.
 pub fn close_store<R: Files<File = File>>(
     rt: &R,
     alloc: Global,
@@ -119,6 +133,9 @@ pub fn close_store<R: Files<File = File>>(
     if read.content.bodies.is_empty() || is_closed(&read.content.bodies) {
         return Ok(());
     }
+    if last_start(&read.content.bodies).boot != read_boot_id(rt) {
+        return Ok(());
+    }
     sync_media(rt, alloc, &paths.media, &read.content)?;
     let mut log = match begin_log(disk, &read) {
         Ok(log) => log,
@@ -129,7 +146,7 @@ pub fn close_store<R: Files<File = File>>(
 }
 
 /// Makes the media files durable, and their names.
-fn sync_media<R: Files<File = File>>(
+pub(crate) fn sync_media<R: Files<File = File>>(
     rt: &R,
     alloc: Global,
     folder: &str,

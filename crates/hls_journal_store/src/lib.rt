@@ -1,7 +1,7 @@
 //! The files of a journal: a folder that holds a channel's log and media.
 //!
 //! `lock` is locked while a process has the folder. `log` has the records. `media/R/NNNNN` has the bytes from NNNNN times 64 MiB on of
-//! the resource of rendition R: its init section and all units. `behind` marks a folder that players have seen more than.
+//! the resource of rendition R: its init section and all units. `behind` marks a folder that players have seen more than; until then it is `spare`.
 //!
 //! [`open_store`] restores the channel of a folder, and [`Follower::follow`] writes what it has grown by since.
 #![tactic(auto)]
@@ -20,6 +20,7 @@ mod media_span;
 mod media_track;
 mod records;
 mod restored;
+mod start_record;
 mod store;
 mod store_paths;
 mod sync_mode;

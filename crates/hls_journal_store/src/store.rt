@@ -1,16 +1,19 @@
 //! Opens the folder of a journal.
 
 use crate::batch::{Position, RENDITIONS, into_bytes};
-use crate::boot_id::{find_boot, make_boot_body, read_boot_id};
+use crate::boot_id::read_boot_id;
 use crate::fault::{OpenFault, StorePart, open_fault};
 use crate::follower::{Follower, StoreFollower};
+use crate::inspect::sync_media;
 use crate::log_file::LogFile;
 use crate::media_files::MediaFiles;
 use crate::records::{append_point, append_records, sync_log};
 use crate::restored::{Source, count_bytes, count_synced, restore_prefix};
+use crate::start_record::{StartRecord, choose_run, find_start, make_start_body, with_run};
 use crate::store_paths::{StorePaths, is_there};
 use crate::sync_mode::SyncMode;
 use bytes::Bytes;
+use hls_core::base::Base;
 use hls_core::config::Config;
 use hls_core::snapshot::Snapshot;
 use hls_journal::{
@@ -53,6 +56,8 @@ pub struct StoreStart {
     pub was_closed: bool,
     /// Whether the last process that wrote to it ran on this boot.
     pub same_boot: bool,
+    /// Whether players may have seen more than was restored. The channel has the new run then.
+    pub may_lack: bool,
 }
 
 /// The channel of a log.
@@ -91,7 +96,10 @@ struct BegunLog {
 }
 
 /// Opens the journal in a folder, which is made if it is missing, and restores its channel. `config.base` counts only for a new
-/// channel; the other one has the base of its first record.
+/// channel; another one has the base of its first record, with the run of the last process.
+///
+/// If the machine ended before the journal was closed, and not everything was synced before it was reported, what players saw last
+/// may be lost. The channel then has the run `new_run`, a name that no other channel has: no path names other bytes than before.
 ///
 /// Nothing that the folder has is changed before the channel is restored.
 ///
@@ -104,10 +112,12 @@ pub fn open_store<R: Files<File = File>>(
     folder: &str,
     config: Config,
     mode: SyncMode,
+    new_run: [u8; 16],
 ) -> Result<OpenedStore, OpenFault> {
     let paths = StorePaths::new(alloc, folder)?;
     let lock = paths.lock(rt)?;
-    let open = open_log(rt, alloc, &paths, config)?;
+    let own = StartRecord::new(read_boot_id(rt), mode, new_run);
+    let open = open_log(rt, alloc, &paths, config, own)?;
     let files = find_files(alloc, &paths.media, &open.snapshot)?;
     Ok(OpenedStore {
         follower: Follower {
@@ -117,7 +127,7 @@ pub fn open_store<R: Files<File = File>>(
             position: files.position,
             mode,
             ended: None,
-            marker: paths.marker,
+            paths,
             lock,
         },
         snapshot: open.snapshot,
@@ -131,13 +141,18 @@ fn open_log<R: Files<File = File>>(
     alloc: Global,
     paths: &StorePaths,
     config: Config,
+    own: StartRecord,
 ) -> Result<OpenLog, OpenFault> {
     let mut disk = paths.open_log(rt)?;
     let mut read = read_disk(alloc, &mut disk)?;
-    let boot = read_boot_id(rt);
-    let channel = find_channel(rt, alloc, &paths.media, config, &read, boot)?;
+    let channel = find_channel(rt, alloc, &paths.media, config, &read, own)?;
+    if channel.start.same_boot && !channel.start.was_closed {
+        // the log says what is synced, and means its media too
+        sync_media(rt, alloc, &paths.media, &read.content)?;
+    }
     keep_records(&mut read, channel.records);
-    let begun = begin_records(alloc, disk, &read, &channel, &boot)?;
+    let run = channel.snapshot.config().base().run();
+    let begun = begin_records(alloc, disk, &read, &channel, &StartRecord { run, ..own })?;
     Ok(OpenLog {
         log: begun.log,
         point_end: begun.point_end,
@@ -170,21 +185,23 @@ fn find_channel<R: Files<File = File>>(
     media: &str,
     config: Config,
     read: &ReadLog,
-    boot: [u8; 16],
+    own: StartRecord,
 ) -> Result<LogChannel, OpenFault> {
     if read.content.bodies.is_empty() {
         check_no_media(rt, alloc, media, config.renditions().len())?;
-        return new_channel(alloc, config, read, boot);
+        return new_channel(alloc, config, read, own.boot);
     }
     let header = read_channel(alloc, &read.content.bodies[0], &config)?;
     let records = &read.content.bodies[1..];
+    let was_closed = is_closed(records);
+    let last = find_start(records, header_start(&header));
+    let may_lack = last.may_lack(&own.boot, was_closed);
     let source = Source {
         media,
         config: &config,
-        base: header.base,
+        base: base_of_start(&header, choose_run(may_lack, own.run, &last))?,
     };
-    let was_closed = is_closed(records);
-    let same_boot = find_boot(records, header.boot) == boot;
+    let same_boot = last.boot == own.boot;
     let synced = if was_closed || same_boot {
         records.len()
     } else {
@@ -200,6 +217,7 @@ fn find_channel<R: Files<File = File>>(
         first_job: find_ids(records).max(1),
         was_closed,
         same_boot,
+        may_lack,
     };
     Ok(LogChannel {
         snapshot: restored.snapshot,
@@ -207,6 +225,19 @@ fn find_channel<R: Files<File = File>>(
         records: restored.count.saturating_add(1),
         first: None,
     })
+}
+
+/// What the first record says of the process that wrote it.
+fn header_start(header: &ChannelHeader) -> StartRecord {
+    StartRecord::new(header.boot, SyncMode::Never, header.base.run())
+}
+
+/// Returns the base of a channel with a run; `Damaged` if that isn't the name of one.
+fn base_of_start(header: &ChannelHeader, run: [u8; 16]) -> Result<Base, OpenFault> {
+    match with_run(&header.base, run) {
+        Some(base) => Ok(base),
+        None => Err(OpenFault::Damaged { at: 0 }),
+    }
 }
 
 /// Refuses a log without records beside media: the first record is durable before there are any.
@@ -257,6 +288,7 @@ fn new_channel(
         first_job: 1,
         was_closed: false,
         same_boot: true,
+        may_lack: false,
     };
     Ok(LogChannel {
         snapshot,
@@ -277,14 +309,14 @@ fn begin_records(
     disk: LogFile,
     read: &ReadLog,
     channel: &LogChannel,
-    boot: &[u8; 16],
+    own: &StartRecord,
 ) -> Result<BegunLog, OpenFault> {
     let mut log = match begin_log(disk, read) {
         Ok(log) => log,
         Err(error) => return Err(open_fault(StorePart::Log, error)),
     };
     let ids = make_ids_body(alloc, channel.start.first_job.saturating_add(RESERVED_IDS))?;
-    let bodies = make_start_bodies(alloc, &channel.first, ids, boot)?;
+    let bodies = make_start_bodies(alloc, &channel.first, ids, own)?;
     let mut point_end = 0;
     append_records(&mut log, alloc, &bodies)?;
     sync_log(&mut log)?;
@@ -297,14 +329,14 @@ fn make_start_bodies(
     alloc: Global,
     first: &Option<Bytes>,
     ids: Vec<u8>,
-    boot: &[u8; 16],
+    own: &StartRecord,
 ) -> Result<Vec<Bytes>, AllocError> {
     let mut bodies = Vec::new(alloc);
     if let Some(first) = first {
         bodies.push(first.clone()?)?;
     }
     bodies.push(into_bytes(ids)?)?;
-    bodies.push(into_bytes(make_boot_body(alloc, boot)?)?)?;
+    bodies.push(into_bytes(make_start_body(alloc, own)?)?)?;
     Ok(bodies)
 }
 

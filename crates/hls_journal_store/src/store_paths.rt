@@ -15,6 +15,8 @@ pub(crate) struct StorePaths {
     pub(crate) log: String,
     pub(crate) media: String,
     pub(crate) marker: String,
+    /// A file that becomes the marker.
+    pub(crate) spare: String,
 }
 
 impl StorePaths {
@@ -25,6 +27,7 @@ impl StorePaths {
             log: format!(in alloc; "{folder}/log")?,
             media: format!(in alloc; "{folder}/media")?,
             marker: format!(in alloc; "{folder}/behind")?,
+            spare: format!(in alloc; "{folder}/spare")?,
         })
     }
 
@@ -45,7 +48,10 @@ impl StorePaths {
         if is_there(rt, &self.marker) {
             return Err(OpenFault::Marked);
         }
-        Ok(lock)
+        match open_or_create(rt, &self.spare) {
+            Ok(_) => Ok(lock),
+            Err(error) => Err(open_fault(StorePart::Marker, error)),
+        }
     }
 
     /// Opens the log, which is made if it is missing.
