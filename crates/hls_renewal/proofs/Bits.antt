@@ -1,0 +1,12 @@
+-- A truth value as a number.
+use Rattle.std.proofs.Common.{◌≡◌, ◌≤◌, Bool, true, false, refl, arith}
+use Rattle.std.specs.Prelude.{if◌then◌else◌}
+use Rattle.std.specs.Int.{from_bool}
+
+pub bit_small : (b : Bool) → from_bool b ≤ 1
+bit_small true = omega arith
+bit_small false = omega arith
+
+pub bit_is : (b : Bool) → from_bool b ≡ (if b then 1 else 0)
+bit_is true = refl
+bit_is false = refl

@@ -1,0 +1,393 @@
+-- The renditions of a renewed channel are the old ones from the cut on.
+use Rattle.std.proofs.Common.{◌≡◌, ◌≢◌, ◌∙◌, ℕ, zero, suc, ◌+◌, ◌-◌, ◌<◌, ◌≤◌, ◌==◌, Bool, true, false, Option, Some, None, List, [], ◌∷◌, ◌++◌, length, drop, get_or, refl, sym, ap, subst, inl, inr, arith, append_assoc, append-nil}
+use Rattle.std.specs.Prelude.{◌⊎◌, cond, option_map, slice_get, slice_set}
+use Rattle.std.proofs.lemmas.Bool.{eqb-true, eq-eqb, le-ltb}
+use Rattle.std.proofs.lemmas.List.{drop_all, drop_more}
+use Rattle.std.proofs.Math.Seq.{drop-nil}
+use Rattle.std.proofs.lemmas.Option.{slice_get_within, slice_get-get_or, get_or_from_slice_get}
+use Rattle.hls_check_tables.specs.declared.spot.Spot.{Spot}
+use Rattle.hls_check_tables.specs.Tables.{spot_in}
+use Rattle.hls_media_laws.specs.InitData.{InitData}
+use Rattle.hls_media_laws.specs.declared.facts.Facts.{Facts}
+use Rattle.hls_record.specs.RecordingData.{RecordingData, unit_at}
+use Rattle.hls_places_laws.specs.declared.place.Place.{Place}
+use Rattle.hls_places_laws.specs.Order.{no_place}
+use Rattle.hls_places_laws.proofs.Callers.{IsWithin, front-holds, front-stands, places-within}
+use Rattle.hls_core_laws.specs.declared.event.Event.{Event}
+use Rattle.hls_core_laws.specs.declared.event.Event.TheVariants.{Begin, Accept, Finish, Slide, Trim}
+use Rattle.hls_core_laws.specs.Config.{ConfigData, without_base}
+use Rattle.hls_core_laws.specs.Channel.{Channel, Lane, no_lane, fresh_lane, lane, with_lane, with_begin, with_facts, with_finish, with_floor, channel_after, channel_from}
+use Rattle.hls_core_laws.specs.State.{State, HeldBytes, no_bytes, channel}
+use Rattle.hls_core_laws.specs.IsState.{IsState, MatchesBytes}
+use Rattle.hls_core_laws.specs.Line.{line, line_goal_of}
+use Rattle.hls_core_laws.specs.Outcome.{Outcome, New, Repeated, Refused, outcome_of, held_bytes}
+use Rattle.hls_core_laws.specs.Moves.{logged_event, state_with_entry}
+use Rattle.hls_core_laws.specs.Places.{floor_of, floors, places, sources}
+use Rattle.hls_core_laws.specs.Runs.{state_by_outcome, next_state, replayed_state}
+use Rattle.hls_core_laws.proofs.Callers.{at_beside, at_map, at_or, channel_advanced, floors-count, kept-parts, lanes_count, some_at, source_of, sources_count, spots-count}
+use Rattle.hls_core.specs.Getters.{recording_of, recorded_at, recorded_from, finished_at}
+use Rattle.hls_playlists_laws.specs.Origins.{LaneBegins}
+use Rattle.hls_playlists_laws.specs.Handovers.{IsHandedOver, lane_from, unit_at as cut_unit}
+use Rattle.hls_playlists_laws.specs.CutBases.{base_of_cut}
+use Rattle.hls_renewal.specs.Renewals.{AreNew}
+use Rattle.hls_renewal.specs.declared.line_cut.LineCut.{LineCut}
+use Rattle.hls_renewal.specs.Cuts.{IsLineCut}
+use Rattle.hls_renewal.specs.Renewals.{with_unit, units_from, media_from, end_of, rendition_from, renditions_from, slide_by, renewal_events, renewal_start, Renews}
+use Rattle.hls_renewal.proofs.Recorded.{of_lane}
+use Rattle.hls_renewal.proofs.LineCuts.{is_line_cut}
+
+-- ---- one lane at a time
+
+abbrev chosen : Bool → Lane → Lane → Lane
+chosen true new old = new
+chosen false new old = old
+
+-- the effect of an event on rendition r
+abbrev lane_after : ℕ → Event → Lane → Lane
+lane_after r (Begin q init bytes) l = chosen (r == q) (with_begin init (length bytes) l) l
+lane_after r (Accept q f bytes) l = chosen (r == q) (with_facts f l) l
+lane_after r (Finish q) l = chosen (r == q) (with_finish l) l
+lane_after r (Slide count) l = l
+lane_after r (Trim q floor) l = chosen (r == q) (with_floor floor l) l
+
+abbrev lane_run : ℕ → List (ℕ × Event) → Lane → Lane
+lane_run r [] l = l
+lane_run r (e ∷ es) l = lane_run r es (lane_after r e.1 l)
+
+bool_cases : (b : Bool) → (b ≡ true) ⊎ (b ≡ false)
+bool_cases true = inl refl
+bool_cases false = inr refl
+
+set_at_or : {A : Type 0} (xs : List A) (r : ℕ) (x y : A) → slice_get xs r ≡ Some x → slice_get (slice_set xs r y) r ≡ Some y
+set_at_or [] r x y at = absurd (cc)
+set_at_or (z ∷ xs) zero x y at = refl
+set_at_or (z ∷ xs) (suc r) x y at = set_at_or xs r x y at
+
+set_else : {A : Type 0} (xs : List A) (q : ℕ) (y : A) (r : ℕ) → r ≢ q → slice_get (slice_set xs q y) r ≡ slice_get xs r
+set_else [] q y r differ = refl
+set_else (z ∷ xs) zero y zero differ = absurd (differ refl)
+set_else (z ∷ xs) zero y (suc r) differ = refl
+set_else (z ∷ xs) (suc q) y zero differ = refl
+set_else (z ∷ xs) (suc q) y (suc r) differ = set_else xs q y r (λ h. differ (ap suc h))
+
+one_set : (ch : Channel) (r q : ℕ) (l : Lane) (f : Lane → Lane) → slice_get ch.lanes r ≡ Some l → slice_get (with_lane ch q (f (lane ch q))).lanes r ≡ Some (chosen (r == q) (f l) l)
+one_set ch r q l f at = elim (bool_cases (r == q)) [
+  | inl here ↦
+      let same : r ≡ q = eqb-true r q here in
+      let is : lane ch q ≡ l = at_or ch.lanes q no_lane l (ap (λ k. slice_get ch.lanes k) (sym same) ∙ at) in
+      ap (λ k. slice_get (with_lane ch q (f (lane ch q))).lanes k) same
+      ∙ set_at_or ch.lanes q l (f (lane ch q)) (ap (λ k. slice_get ch.lanes k) (sym same) ∙ at)
+      ∙ ap (λ (x : Lane). Some (f x)) is
+      ∙ ap (λ (b : Bool). Some (chosen b (f l) l)) (sym here)
+  | inr other ↦
+      let differ : r ≢ q = λ h. let yes = eq-eqb r q h in absurd (cc) in
+      set_else ch.lanes q (f (lane ch q)) r differ ∙ at ∙ ap (λ (b : Bool). Some (chosen b (f l) l)) (sym other)
+]
+
+after_one : (ch : Channel) (e : Event) (r : ℕ) (l : Lane) → slice_get ch.lanes r ≡ Some l → slice_get (channel_after (logged_event e) ch).lanes r ≡ Some (lane_after r e l)
+after_one ch (Begin q init bytes) r l at = one_set ch r q l (with_begin init (length bytes)) at
+after_one ch (Accept q f bytes) r l at = one_set ch r q l (with_facts f) at
+after_one ch (Finish q) r l at = one_set ch r q l with_finish at
+after_one ch (Slide count) r l at = at
+after_one ch (Trim q floor) r l at = one_set ch r q l (with_floor floor) at
+
+after_all : (s : State) (es : List (ℕ × Event)) (r : ℕ) (l : Lane) → AreNew s es → slice_get (channel s).lanes r ≡ Some l
+    → slice_get (channel (replayed_state s es)).lanes r ≡ Some (lane_run r es l)
+after_all s [] r l new at = at
+after_all s (e ∷ es) r l new at =
+    let is : next_state s e.0 e.1 ≡ state_with_entry s e.0 e.1 = ap (λ (o : Outcome). state_by_outcome o (state_with_entry s e.0 e.1) s) new.0 in
+    let there : slice_get (channel (next_state s e.0 e.1)).lanes r ≡ Some (lane_after r e.1 l) =
+    ap (λ (x : State). slice_get (channel x).lanes r) is ∙ ap (λ (x : Channel). slice_get x.lanes r) (channel_advanced s e.0 e.1) ∙ after_one (channel s) e.1 r l at in
+    after_all (next_state s e.0 e.1) es r (lane_after r e.1 l) new.1 there
+
+-- the configuration stays
+config_by : (s : State) (by : ℕ) (e : Event) (o : Outcome) → (state_by_outcome o (state_with_entry s by e) s).config ≡ s.config
+config_by s by e New = refl
+config_by s by e Repeated = refl
+config_by s by e (Refused x) = refl
+
+pub config_after_all : (s : State) (es : List (ℕ × Event)) → (replayed_state s es).config ≡ s.config
+config_after_all s [] = refl
+config_after_all s (e ∷ es) = config_after_all (next_state s e.0 e.1) es ∙ config_by s e.0 e.1 (outcome_of s e.1)
+
+-- ---- the events of a renewal
+
+run_append : (r : ℕ) (xs ys : List (ℕ × Event)) (l : Lane) → lane_run r (xs ++ ys) l ≡ lane_run r ys (lane_run r xs l)
+run_append r [] ys l = refl
+run_append r (e ∷ xs) ys l = run_append r xs ys (lane_after r e.1 l)
+
+-- those of another rendition leave it
+apart_unit : (r q : ℕ) (f : Option Facts) (unit : Option (List ℕ)) (more : List (ℕ × Event)) (l : Lane) → (r == q) ≡ false → ((l : Lane) → lane_run r more l ≡ l) → lane_run r (with_unit q f unit more) l ≡ l
+apart_unit r q None unit more l differ rest = refl
+apart_unit r q (Some f) None more l differ rest = refl
+apart_unit r q (Some f) (Some unit) more l differ rest = ap (λ (b : Bool). lane_run r more (chosen b (with_facts f l) l)) differ ∙ rest l
+
+apart_units : (r q : ℕ) (rec : RecordingData) (n count : ℕ) (l : Lane) → (r == q) ≡ false → lane_run r (units_from q rec n count) l ≡ l
+apart_units r q rec n zero l differ = refl
+apart_units r q rec n (suc count) l differ =
+    apart_unit r q (slice_get rec.facts n) (unit_at rec n) (units_from q rec (suc n) count) l differ (λ x. apart_units r q rec (suc n) count x differ)
+
+apart_media : (r q n : ℕ) (rec : Option RecordingData) (l : Lane) → (r == q) ≡ false → lane_run r (media_from q rec n) l ≡ l
+apart_media r q n None l differ = refl
+apart_media r q n (Some rec) l differ =
+    ap (λ (b : Bool). lane_run r (units_from q rec n (length rec.facts - n)) (chosen b (with_begin rec.init (length rec.head) l) l)) differ ∙ apart_units r q rec n (length rec.facts - n) l differ
+
+apart_end : (r q : ℕ) (finished : Option Bool) (l : Lane) → (r == q) ≡ false → lane_run r (end_of q finished) l ≡ l
+apart_end r q None l differ = refl
+apart_end r q (Some true) l differ = ap (λ (b : Bool). chosen b (with_finish l) l) differ
+apart_end r q (Some false) l differ = refl
+
+apart : (a : State) (r q n : ℕ) (l : Lane) → (r == q) ≡ false → lane_run r (rendition_from a q n) l ≡ l
+apart a r q n l differ =
+    run_append r (media_from q (recording_of a q) n) (end_of q (finished_at a q)) l
+    ∙ ap (λ x. lane_run r (end_of q (finished_at a q)) x) (apart_media r q n (recording_of a q) l differ)
+    ∙ apart_end r q (finished_at a q) l differ
+
+not_equal : (r q : ℕ) → r < q → (r == q) ≡ false
+not_equal r q less = elim (bool_cases (r == q)) [
+  | inl same ↦ absurd (omega (arith, less, eqb-true r q same))
+  | inr differ ↦ differ
+]
+
+not_equal_up : (r q : ℕ) → q < r → (r == q) ≡ false
+not_equal_up r q less = elim (bool_cases (r == q)) [
+  | inl same ↦ absurd (omega (arith, less, eqb-true r q same))
+  | inr differ ↦ differ
+]
+
+-- those of later renditions too
+later_apart : (a : State) (r q : ℕ) (spots : List Spot) (l : Lane) → r < q → lane_run r (renditions_from a q spots) l ≡ l
+later_apart a r q [] l less = refl
+later_apart a r q (spot ∷ spots) l less =
+    run_append r (rendition_from a q spot.fragment) (renditions_from a (suc q) spots) l
+    ∙ ap (λ x. lane_run r (renditions_from a (suc q) spots) x) (apart a r q spot.fragment l (not_equal r q less))
+    ∙ later_apart a r (suc q) spots l (omega (arith, less))
+
+-- so what counts are its own
+own_events : (a : State) (r k q : ℕ) (spots : List Spot) (spot : Spot) (l : Lane) → r ≡ q + k → slice_get spots k ≡ Some spot
+    → lane_run r (renditions_from a q spots) l ≡ lane_run r (rendition_from a r spot.fragment) l
+own_events a r k q [] spot l is at = absurd (cc)
+own_events a r zero q (x ∷ spots) spot l is at =
+    let same : x ≡ spot = cc in
+    let number : q ≡ r = omega (arith, is) in
+    run_append r (rendition_from a q x.fragment) (renditions_from a (suc q) spots) l
+    ∙ later_apart a r (suc q) spots (lane_run r (rendition_from a q x.fragment) l) (omega (arith, is))
+    ∙ ap (λ (y : Spot). lane_run r (rendition_from a q y.fragment) l) same
+    ∙ ap (λ j. lane_run r (rendition_from a j spot.fragment) l) number
+own_events a r (suc k) q (x ∷ spots) spot l is at =
+    run_append r (rendition_from a q x.fragment) (renditions_from a (suc q) spots) l
+    ∙ ap (λ y. lane_run r (renditions_from a (suc q) spots) y) (apart a r q x.fragment l (not_equal_up r q (omega (arith, is))))
+    ∙ own_events a r k (suc q) spots spot l (omega (arith, is)) at
+
+-- a slide leaves it
+slide_apart : (r n : ℕ) (l : Lane) → lane_run r (slide_by n) l ≡ l
+slide_apart r zero l = refl
+slide_apart r (suc n) l = refl
+
+-- ---- its own events
+
+abbrev with_more : List Facts → Lane → Lane
+with_more fs l = record { init = l.init; size = l.size; facts = l.facts ++ fs; floor = l.floor; finished = l.finished }
+
+none_more : (l : Lane) → l ≡ with_more [] l
+none_more l = let same = sym (append-nil l.facts) in
+    λ k. record { init = l.init; size = l.size; facts = same k; floor = l.floor; finished = l.finished }
+
+one_more : (f : Facts) (fs : List Facts) (l : Lane) → with_more fs (with_facts f l) ≡ with_more (f ∷ fs) l
+one_more f fs l = let same = append_assoc l.facts (f ∷ []) fs in
+    λ k. record { init = l.init; size = l.size; facts = same k; floor = l.floor; finished = l.finished }
+
+-- all units from a number on are kept
+abbrev AreKeptFrom : RecordingData → ℕ → Type 0
+AreKeptFrom rec n = (k : ℕ) → n ≤ k → k < length rec.facts → (unit : List ℕ) × (unit_at rec k ≡ Some unit)
+
+own_units : (r : ℕ) (rec : RecordingData) (n count : ℕ) (l : Lane) → (r == r) ≡ true → AreKeptFrom rec n → n + count ≡ length rec.facts
+    → lane_run r (units_from r rec n count) l ≡ with_more (drop n rec.facts) l
+own_units r rec n zero l same kept all =
+    none_more l ∙ ap (λ fs. with_more fs l) (sym (drop_all n rec.facts (omega (arith, all))))
+own_units r rec n (suc count) l same kept all =
+    let within : n < length rec.facts = omega (arith, all) in
+    let f = some_at rec.facts n within in
+    let unit = kept n (omega arith) within in
+    let next : n + 1 ≡ suc n = omega arith in
+    let split : drop n rec.facts ≡ f.0 ∷ drop (suc n) rec.facts =
+    drop_more rec.facts n f.0 within ∙ ap (λ x. x ∷ drop (n + 1) rec.facts) (get_or_from_slice_get rec.facts n f.0 f.0 f.1) ∙ ap (λ k. f.0 ∷ drop k rec.facts) next in
+    ap (λ (o : Option Facts). lane_run r (with_unit r o (unit_at rec n) (units_from r rec (suc n) count)) l) f.1
+    ∙ ap (λ (o : Option (List ℕ)). lane_run r (with_unit r (Some f.0) o (units_from r rec (suc n) count)) l) unit.1
+    ∙ ap (λ (b : Bool). lane_run r (units_from r rec (suc n) count) (chosen b (with_facts f.0 l) l)) same
+    ∙ own_units r rec (suc n) count (with_facts f.0 l) same (λ k low high. kept k (omega (arith, low)) high) (omega (arith, all))
+    ∙ one_more f.0 (drop (suc n) rec.facts) l
+    ∙ ap (λ fs. with_more fs l) (sym split)
+
+abbrev ended : Bool → Lane → Lane
+ended true l = with_finish l
+ended false l = l
+
+own_end : (r : ℕ) (finished : Bool) (l : Lane) → (r == r) ≡ true → lane_run r (end_of r (Some finished)) l ≡ ended finished l
+own_end r true l same = ap (λ (b : Bool). chosen b (with_finish l) l) same
+own_end r false l same = refl
+
+-- the lane of a rendition that began again
+abbrev renewed_lane : RecordingData → ℕ → Bool → Lane
+renewed_lane rec n finished = ended finished (with_more (drop n rec.facts) (with_begin rec.init (length rec.head) no_lane))
+
+own_media : (r n : ℕ) (rec : RecordingData) (finished : Bool) → AreKeptFrom rec n → n ≤ length rec.facts
+    → lane_run r (media_from r (Some rec) n ++ end_of r (Some finished)) no_lane ≡ renewed_lane rec n finished
+own_media r n rec finished kept few =
+    let same : (r == r) ≡ true = eq-eqb r r refl in
+    let all : n + (length rec.facts - n) ≡ length rec.facts = omega (arith, few) in
+    run_append r (media_from r (Some rec) n) (end_of r (Some finished)) no_lane
+    ∙ own_end r finished (lane_run r (media_from r (Some rec) n) no_lane) same
+    ∙ ap (λ (b : Bool). ended finished (lane_run r (units_from r rec n (length rec.facts - n)) (chosen b (with_begin rec.init (length rec.head) no_lane) no_lane))) same
+    ∙ ap (λ l. ended finished l) (own_units r rec n (length rec.facts - n) (with_begin rec.init (length rec.head) no_lane) same kept all)
+
+-- such a lane begins as the old one from its cut on
+begins_again : (l : Lane) (rec : RecordingData) (n : ℕ) (finished : Bool) → l.init ≡ Some rec.init → rec.facts ≡ l.facts → l.size ≡ length rec.head → l.finished ≡ finished
+    → LaneBegins (lane_from n l) (renewed_lane rec n finished)
+begins_again l rec n true init facts size over = record {
+  init = sym init;
+  size = sym size;
+  more = [];
+  facts = ap (λ fs. drop n fs) facts ∙ sym (append-nil (drop n l.facts));
+  over = λ h. (refl, refl);
+}
+begins_again l rec n false init facts size over = record {
+  init = sym init;
+  size = sym size;
+  more = [];
+  facts = ap (λ fs. drop n fs) facts ∙ sym (append-nil (drop n l.facts));
+  over = λ h. absurd (cc);
+}
+
+-- ---- the renewed channel
+
+-- each unit from the floor on is kept
+kept_units : (floor n : ℕ) (rec : RecordingData) → rec.floor ≡ floor → rec.floor + length rec.units ≡ length rec.facts → floor ≤ n → AreKeptFrom rec n
+kept_units floor n rec is whole low k from within =
+    let above : rec.floor ≤ k = omega (arith, is, low, from) in
+    let there = some_at rec.units (k - rec.floor) (omega (arith, above, whole, within)) in
+    (there.0, ap (λ (b : Bool). cond b None (slice_get rec.units (k - rec.floor))) (le-ltb k rec.floor above) ∙ there.1)
+
+some_same : {A : Type 0} (x y : A) → Some x ≡ Some y → x ≡ y
+some_same x y same = cc
+
+-- a rendition from a cut on: what was recorded, by whether it has begun
+record IsCutHere (a : State) (r n : ℕ) (l : Lane) : Type 0 where
+  at : slice_get (channel a).lanes r ≡ Some l
+  low : l.floor ≤ n
+  high : n ≤ length l.facts
+
+begun_lane : (a : State) (r n : ℕ) (l : Lane) (rec : RecordingData) → IsState a → IsCutHere a r n l → recording_of a r ≡ Some rec
+    → LaneBegins (lane_from n l) (lane_run r (media_from r (Some rec) n ++ end_of r (Some l.finished)) no_lane)
+begun_lane a r n l rec state here found =
+    let of = of_lane a r rec found in
+    let same : of.its ≡ l = some_same of.its l (sym of.at ∙ here.at) in
+    let beside = at_beside (channel a).lanes a.bytes r l state.counts_agree here.at in
+    let held_is : held_bytes a r ≡ beside.0 = at_or a.bytes r no_bytes beside.0 beside.1 in
+    let matches : MatchesBytes l beside.0 = state.fits r l beside.0 here.at beside.1 in
+    let init : l.init ≡ Some rec.init = ap (λ (x : Lane). x.init) (sym same) ∙ of.begun in
+    let parts : record { init = rec.init; head = (held_bytes a r).head; facts = l.facts; floor = l.floor; units = (held_bytes a r).units } ≡ rec =
+    some_same _ _ (ap (λ (i : Option InitData). recorded_from i l (held_bytes a r)) (sym init) ∙ ap (λ (o : Option Lane). recorded_at o (held_bytes a r)) (sym here.at) ∙ found) in
+    let facts : rec.facts ≡ l.facts = ap (λ (x : RecordingData). x.facts) (sym parts) in
+    let floor : rec.floor ≡ l.floor = ap (λ (x : RecordingData). x.floor) (sym parts) in
+    let units : length rec.units ≡ length (beside.0).units = ap (λ (x : RecordingData). length x.units) (sym parts) ∙ ap (λ (h : HeldBytes). length h.units) held_is in
+    let size : l.size ≡ length rec.head = matches.size ∙ ap (λ (h : HeldBytes). length h.head) (sym held_is) ∙ ap (λ (x : RecordingData). length x.head) parts in
+    let long : length rec.facts ≡ length l.facts = ap length facts in
+    let kept = kept_units l.floor n rec floor (omega (arith, floor, units, long, matches.kept)) here.low in
+    subst (λ (m : Lane). LaneBegins (lane_from n l) m) (sym (own_media r n rec l.finished kept (omega (arith, long, here.high))))
+    (begins_again l rec n l.finished init facts size refl)
+
+not_begun : (i : Option InitData) (l : Lane) (h : HeldBytes) → recorded_from i l h ≡ None → i ≡ None
+not_begun None l h none = refl
+not_begun (Some init) l h none = absurd (cc)
+
+bare_lane : (a : State) (r n : ℕ) (l : Lane) → IsState a → IsCutHere a r n l → recording_of a r ≡ None
+    → LaneBegins (lane_from n l) (lane_run r (media_from r None n ++ end_of r (Some l.finished)) no_lane)
+bare_lane a r n l state here found =
+    let beside = at_beside (channel a).lanes a.bytes r l state.counts_agree here.at in
+    let matches : MatchesBytes l beside.0 = state.fits r l beside.0 here.at beside.1 in
+    let none : l.init ≡ None = not_begun l.init l (held_bytes a r) (ap (λ (o : Option Lane). recorded_at o (held_bytes a r)) (sym here.at) ∙ found) in
+    let bare = matches.none none in
+    let over : l.finished ≡ false = bare.3 in
+    subst (λ (m : Lane). LaneBegins (lane_from n l) m) (sym (ap (λ (b : Bool). lane_run r (end_of r (Some b)) no_lane) over)) (record {
+      init = sym none;
+      size = sym bare.2;
+      more = [];
+      facts = sym (ap (λ fs. drop n fs ++ []) bare.0 ∙ append-nil (drop n []) ∙ drop-nil n);
+      over = λ h. absurd (cc);
+    })
+
+by_recording : (a : State) (r n : ℕ) (l : Lane) (o : Option RecordingData) → IsState a → IsCutHere a r n l → recording_of a r ≡ o
+    → LaneBegins (lane_from n l) (lane_run r (media_from r o n ++ end_of r (Some l.finished)) no_lane)
+by_recording a r n l None state here found = bare_lane a r n l state here found
+by_recording a r n l (Some rec) state here found = begun_lane a r n l rec state here found
+
+one_lane : (a : State) (r n : ℕ) (l : Lane) → IsState a → IsCutHere a r n l → LaneBegins (lane_from n l) (lane_run r (rendition_from a r n) no_lane)
+one_lane a r n l state here =
+    let finished : finished_at a r ≡ Some l.finished = ap (λ (o : Option Lane). option_map (λ (x : Lane). x.finished) o) here.at in
+    subst (λ (o : Option Bool). LaneBegins (lane_from n l) (lane_run r (media_from r (recording_of a r) n ++ end_of r o) no_lane)) (sym finished)
+    (by_recording a r n l (recording_of a r) state here refl)
+
+place_within : (s : State) (k : ℕ) (p : Place) → slice_get (places s) k ≡ Some p → IsWithin (sources s) p
+place_within s k p at =
+    let below = slice_get_within (places s) k p at in
+    let here : IsWithin (sources s) (get_or (places s) k no_place) = places-within (sources s) k no_place below in
+    let same : get_or (places s) k no_place ≡ p = let there = slice_get-get_or (places s) k no_place below in cc in
+    subst (λ (q : Place). IsWithin (sources s) q) same here
+
+cut_within : (a : State) (cut : LineCut) (r : ℕ) (l : Lane) → IsLineCut a cut → slice_get (channel a).lanes r ≡ Some l → cut_unit cut.place r ≤ length l.facts
+cut_within a cut r l is at =
+    let within = front-holds (IsWithin (sources a)) (line_goal_of a.config) (places a) cut.segments cut.place (place_within a) (is.is_cut).front in
+    let below : r < length (sources a) = omega (arith, sources_count a, slice_get_within (channel a).lanes r l at) in
+    omega (arith, within.each r below, ap length (source_of a r l at).facts)
+
+-- a cut has a spot in each rendition, between its floor and its end
+spot_of_cut : (a : State) (cut : LineCut) (r : ℕ) (l : Lane) → IsState a → IsLineCut a cut → slice_get (channel a).lanes r ≡ Some l
+    → (slice_get (cut.place).spots r ≡ Some (spot_in (cut.place).spots r)) × IsCutHere a r (cut_unit cut.place r) l
+spot_of_cut a cut r l state is at =
+    let stands = front-stands (line_goal_of a.config) (places a) cut.segments cut.place (is.is_cut).front in
+    let count = spots-count a state stands.number cut.place stands.there in
+    let within : r < length (floors a) = omega (arith, slice_get_within (channel a).lanes r l at, floors-count a, sources_count a) in
+    let there : r < length (cut.place).spots = omega (arith, count, within) in
+    let low = kept-parts (floors a) (cut.place).spots count is.kept r within in
+    let floor : get_or (floors a) r 0 ≡ l.floor = get_or_from_slice_get (floors a) r l.floor 0 (at_map floor_of (channel a).lanes r l at) in
+    let none : Spot = record { fragment = 0; prev_end = 0; start = 0; run_in = 0; run_out = 0 } in
+    (slice_get-get_or (cut.place).spots r none there, record { at = at; low = omega (arith, low, floor); high = cut_within a cut r l is at })
+
+-- no rendition has begun in the opening state
+fresh_at : (a : State) (cut : LineCut) (r : ℕ) (l : Lane) → slice_get (channel a).lanes r ≡ Some l → slice_get (channel (renewal_start a cut)).lanes r ≡ Some no_lane
+unfolding channel_from
+fresh_at a cut r l at =
+    let within : r < length a.config.renditions = omega (arith, slice_get_within (channel a).lanes r l at, lanes_count a.config a.log) in
+    let there = some_at a.config.renditions r within in
+    at_map fresh_lane a.config.renditions r there.0 there.1
+
+-- the law
+pub renewed_channels_are_handed_over : (a b : State) (renews : Renews a b) → IsState a
+    → IsHandedOver a b (renews.cut).segments (renews.cut).place × (b.config.base ≡ base_of_cut a (renews.cut).segments (renews.cut).place)
+    × (a.config.base.version + length a.log ≤ b.config.base.version + length b.log)
+renewed_channels_are_handed_over a b renews state =
+    let cut = renews.cut in
+    let start = renewal_start a cut in
+    let is = is_line_cut a cut state renews.first in
+    let version : b.config.base.version ≡ a.config.base.version + length a.log =
+    ap (λ (x : State). x.config.base.version) renews.is ∙ ap (λ (c : ConfigData). c.base.version) (config_after_all start (renewal_events a cut)) in
+    let config : b.config ≡ start.config = ap (λ (x : State). x.config) renews.is ∙ config_after_all start (renewal_events a cut) in (
+      record {
+        config = ap without_base config;
+        is_cut = is.is_cut;
+        each = λ r l m at there.
+            let spot = spot_of_cut a cut r l state is at in
+            let fresh : slice_get (channel start).lanes r ≡ Some no_lane = fresh_at a cut r l at in
+            let run = after_all start (renewal_events a cut) r no_lane renews.new fresh in
+            let mine : lane_run r (renewal_events a cut) no_lane ≡ lane_run r (rendition_from a r (cut_unit cut.place r)) no_lane =
+            run_append r (renditions_from a 0 (cut.place).spots) (slide_by ((line a).removed - cut.segments)) no_lane
+            ∙ slide_apart r ((line a).removed - cut.segments) (lane_run r (renditions_from a 0 (cut.place).spots) no_lane)
+            ∙ own_events a r r 0 (cut.place).spots (spot_in (cut.place).spots r) no_lane (omega arith) spot.0 in
+            let same : lane_run r (rendition_from a r (cut_unit cut.place r)) no_lane ≡ m =
+            some_same _ m (ap Some (sym mine) ∙ sym run ∙ ap (λ (x : State). slice_get (channel x).lanes r) (sym renews.is) ∙ there) in
+            inl (subst (λ (x : Lane). LaneBegins (lane_from (cut_unit cut.place r) l) x) same (one_lane a r (cut_unit cut.place r) l state spot.1));
+      },
+      ap (λ (c : ConfigData). c.base) config,
+      omega (arith, version),
+    )

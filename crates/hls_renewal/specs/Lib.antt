@@ -1,0 +1,4 @@
+-- The definitions of this crate.
+pub mod Cuts
+pub mod Renewals
+pub mod Laws
