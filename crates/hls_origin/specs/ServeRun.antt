@@ -1,13 +1,14 @@
 -- How `serve` may end, given its arguments.
-use Rattle.std.specs.Prelude.{◌≡◌, ◌≢◌, List, Ok, Err}
+use Rattle.std.specs.Prelude.{◌≡◌, ◌≢◌, List, [], Some, Ok, Err}
 use Rattle.clap.specs.Words.{Text}
 use Rattle.hls_settings.specs.ReadSettings.{ReadsSettings}
 use Rattle.hls_settings.specs.declared.fault.SettingsFault.TheVariants as faults
+use Rattle.hls_settings.specs.FileArguments.{journal_argument}
 use Rattle.hls_settings.specs.JournalSettings.{sync_setting_of}
 use Rattle.hls_settings.specs.declared.journal_settings.SyncSetting.{SyncSetting}
 use Rattle.hls_settings.specs.declared.settings.Settings.{Settings}
 use Rattle.hls_origin.specs.declared.serve.run.ServeEnd.{ServeEnd}
-use Rattle.hls_origin.specs.declared.serve.run.ServeEnd.TheVariants.{Done, Usage, Base, Sync, JournalFailed, BindFailed, Memory}
+use Rattle.hls_origin.specs.declared.serve.run.ServeEnd.TheVariants.{Done, Usage, Base, Sync, NoFolder, OtherJournal, JournalFailed, BindFailed, Memory}
 
 -- arguments that specify settings
 abbrev pub AreSettings : List Text → Type 0
@@ -31,6 +32,8 @@ EndsServe arguments Done = AreSettings arguments
 EndsServe arguments BindFailed = AreSettings arguments
 EndsServe arguments (Base fault) = AreSettings arguments
 EndsServe arguments (Sync fault) = AreSettings arguments × (sync_setting_of arguments ≡ Err fault)
+EndsServe arguments NoFolder = HasJournal arguments × (journal_argument arguments ≡ Some [])
+EndsServe arguments OtherJournal = HasJournal arguments
 EndsServe arguments JournalFailed = HasJournal arguments
 EndsServe arguments (Usage fault) = ReadsSettings arguments (Err fault) × (fault ≢ faults.Memory)
 EndsServe arguments Memory = Unit {0}

@@ -22,6 +22,9 @@
 //! `hls_origin serve [OPTIONS] ADDRESS SPEC..` serves a channel over HTTP until a signal ends it. The exit status is 2 for a usage
 //! fault, and 1 if it can't listen on the address or is out of memory.
 //!
+//! `hls_origin journal FOLDER` reports what the folder of a journal holds, and changes nothing; `hls_origin journal --close FOLDER` syncs
+//! and closes it. The exit status is 1 if a start doesn't restore it, or if it can't be closed, and 2 for a usage fault.
+//!
 //! `hls_origin help`, `--help` and `-h`, alone or after a command, print the usage, and `--version` the version.
 #![tactic(auto)]
 
@@ -29,9 +32,11 @@ ghost use Rattle.std.specs.Prelude.{◌≡◌};
 ghost use Rattle.std.specs.Process.{exit_status};
 ghost use Rattle.hls_origin.specs.Status.{check_status, cut_status, explain_status, lint_status, serve_status, usage_status};
 
+mod journal;
 mod serve;
 mod version;
 
+use crate::journal::{run_close, run_report};
 use crate::serve::run::{ServeEnd, run_serve};
 use crate::version::{TOOLCHAIN, VERSION};
 use hls_commands::{
@@ -58,6 +63,7 @@ const USAGE: &str =
        hls_origin explain [NAME]
        hls_origin serve [OPTIONS] ADDRESS SPEC..
        hls_origin size [OPTIONS] ADDRESS SPEC..
+       hls_origin journal [--close] FOLDER
        hls_origin --help | --version
 ";
 
@@ -97,6 +103,9 @@ serve: a live channel over HTTP; encoders PUT to /ingest/0, /ingest/1, .. and pl
   --log requests a line for each request on standard error
   --run TEXT     the run that the paths of media below /hls/ name, 1 to 16 letters and digits; generated if
                  not given. No other channel may ever have it
+  --journal FOLDER  where the channel is kept: a start continues the one that the folder has
+  --sync MODE    when the journal is synced to its disk: never, each (before each response), or a number of
+                 milliseconds, 1 to 60000; 1000
   --base FILE    what precedes: the base at which the channel continues another process's; its run is the
                  channel's
   --mend         make the units of each rendition contiguous: move starts, fill gaps, drop what overlaps
@@ -105,6 +114,8 @@ serve: a live channel over HTTP; encoders PUT to /ingest/0, /ingest/1, .. and pl
   --wait N       with --mend, how many seconds an encoder may be silent before its rendition is filled up to
                  the others, 1 to 3600; 5
 size: how much memory serve with these arguments needs, in MiB, and the limits of its service
+journal: what the folder of a journal holds, and whether a start restores it; --close syncs a folder whose
+       server has ended
 Each option may stand once, after its command; --each excludes --preferred and --certificate. No word
 may follow check or lint.
 
@@ -301,6 +312,40 @@ fn run_explain_command(rt: &HostRuntime, arguments: &[String]) -> ExitCode {
     end_explain(rt, argument.unwrap_or(""), end)
 }
 
+/// Prints that `journal` needs a folder, and the usage.
+fn print_no_folder(rt: &HostRuntime) -> ExitCode
+    ensures { exit_status result ≡ usage_status }
+{
+    let _ = eprint!(rt; "journal: no folder is given; hls_origin --help says more\n{USAGE}");
+    ExitCode::from(2)
+}
+
+/// Runs `journal`, which takes a folder, or `--close` and a folder.
+fn run_journal_command(rt: &HostRuntime, arguments: &[String]) -> ExitCode {
+    let (closes, words) = match arguments {
+        [option, rest @ ..] if option.as_str() == "--close" => (true, rest),
+        _ => (false, arguments),
+    };
+    let folder = match words {
+        [] => return print_no_folder(rt),
+        [folder] if !folder.as_str().starts_with("-") => folder.as_str(),
+        [folder, rest @ ..] if !folder.as_str().starts_with("-") => {
+            return print_usage_fault(rt, rest);
+        }
+        _ => return print_usage_fault(rt, words),
+    };
+    let has_worked = if closes {
+        run_close(rt, rt.alloc(), folder)
+    } else {
+        run_report(rt, rt.alloc(), folder)
+    };
+    if has_worked {
+        ExitCode::SUCCESS
+    } else {
+        ExitCode::from(1)
+    }
+}
+
 /// Returns the exit status of `serve`, and prints its fault.
 fn end_serve(rt: &HostRuntime, arguments: &[String], end: ServeEnd) -> ExitCode
     ensures { exit_status result ≡ serve_status end }
@@ -320,10 +365,14 @@ fn end_serve(rt: &HostRuntime, arguments: &[String], end: ServeEnd) -> ExitCode
             let _ = eprint!(rt; "serve: {fault}; hls_origin --help says more\n{SERVE_USAGE}");
             ExitCode::from(2)
         }
-        ServeEnd::JournalFailed => {
-            let _ = eprintln!(rt; "serve: --journal: this version keeps no journal");
-            ExitCode::from(1)
+        ServeEnd::NoFolder => {
+            let _ = eprint!(rt;
+                "serve: --journal names no folder; hls_origin --help says more\n{SERVE_USAGE}"
+            );
+            ExitCode::from(2)
         }
+        ServeEnd::OtherJournal => ExitCode::from(2),
+        ServeEnd::JournalFailed => ExitCode::from(1),
         ServeEnd::BindFailed => {
             let _ = eprintln!(rt; "serve: BindFailed");
             ExitCode::from(1)
@@ -406,6 +455,7 @@ where
         "explain" => run_explain_command(rt, rest),
         "size" => run_size_command(rt, rest),
         "serve" => end_serve(rt, rest, run_serve(threads, rt, rt.alloc(), rest)),
+        "journal" => run_journal_command(rt, rest),
         "--version" if rest.is_empty() => print_version(rt),
         "help" | "--help" | "-h" | "--version" => print_usage_fault(rt, rest),
         _ => print_usage_fault(rt, arguments),

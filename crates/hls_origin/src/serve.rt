@@ -1,5 +1,7 @@
 //! The command `serve`: a live channel over HTTP.
 
 mod generate_run;
+pub mod journal_follower;
 pub mod load_base;
+pub mod open_journal;
 pub mod run;

@@ -3,14 +3,16 @@ ghost use Rattle.std.specs.Prelude.{map};
 ghost use Rattle.hls_origin.specs.ServeRun.{EndsServe, IsServed};
 
 use crate::serve::generate_run::generate_run;
+use crate::serve::journal_follower::JournalFollower;
 use crate::serve::load_base::{BaseFileFault, load_base};
+use crate::serve::open_journal::{JournalStop, open_journal};
 use hls_core::base::Base;
 use hls_core::snapshot::Snapshot;
 use hls_housekeeper::{OperatorLog, log_listening};
-use hls_server::{NoFollower, ServerStart, log_start, run_server};
+use hls_server::{ServerStart, log_start, run_server};
 use hls_settings::{
-    ListenAddress, Settings, SettingsFault, SyncFault, find_base_argument, find_journal_argument,
-    read_settings, read_sync_setting,
+    ListenAddress, Settings, SettingsFault, SyncFault, SyncSetting, find_base_argument,
+    find_journal_argument, read_settings, read_sync_setting,
 };
 use std::alloc::{AllocError, Global};
 use std::convert::AsStr;
@@ -32,7 +34,11 @@ pub enum ServeEnd {
     Base(BaseFileFault),
     /// `--sync` is invalid, and nothing was started: status 2.
     Sync(SyncFault),
-    /// `--journal` is given, which the program doesn't have yet, and nothing was started: status 1.
+    /// `--journal` names no folder, and nothing was started: status 2.
+    NoFolder,
+    /// The folder of the journal has another channel, and nothing was started: status 2.
+    OtherJournal,
+    /// The journal can't be opened: status 1.
     JournalFailed,
     /// Listening on the address failed: status 1.
     BindFailed,
@@ -80,8 +86,11 @@ fn with_base<R: Files + Clock>(
     })
 }
 
-/// Returns the start of a channel: it is empty.
-fn first_start(alloc: Global, settings: &Settings) -> Result<ServerStart<NoFollower>, AllocError> {
+/// Returns the start of a channel without a journal: it is empty.
+fn plain_start<'a>(
+    alloc: Global,
+    settings: &Settings,
+) -> Result<ServerStart<JournalFollower<'a>>, AllocError> {
     Ok(ServerStart {
         snapshot: Snapshot::first(alloc, settings.config.share()?)?,
         first_job: 1,
@@ -89,8 +98,44 @@ fn first_start(alloc: Global, settings: &Settings) -> Result<ServerStart<NoFollo
     })
 }
 
+/// Returns the start of a channel: with a journal, what its folder has.
+fn start_channel<'a>(
+    host: &'a HostRuntime,
+    alloc: Global,
+    settings: &Settings,
+    folder: Option<&str>,
+    sync: SyncSetting,
+) -> Result<ServerStart<JournalFollower<'a>>, JournalStop> {
+    let Some(folder) = folder else {
+        return match plain_start(alloc, settings) {
+            Ok(start) => Ok(start),
+            Err(_) => Err(JournalStop::Memory),
+        };
+    };
+    let Ok(config) = settings.config.share() else {
+        return Err(JournalStop::Memory);
+    };
+    let start = open_journal(host, alloc, folder, config, sync)?;
+    match settings.server.run {
+        Some(run) if run != start.snapshot.config().base().run() => {
+            let level = OperatorLog::new(host).warning_prefix();
+            let _ = eprintln!(host;
+                "{level}serve: --run is for a new channel: the journal's has another run"
+            );
+        }
+        _ => {}
+    }
+    Ok(start)
+}
+
 /// Listens, and serves a channel. Logs where it listens.
-fn serve_channel<R>(rt: &R, host: &HostRuntime, alloc: Global, settings: &Settings) -> ServeEnd
+fn serve_channel<'a, R>(
+    rt: &R,
+    host: &'a HostRuntime,
+    alloc: Global,
+    settings: &Settings,
+    start: ServerStart<JournalFollower<'a>>,
+) -> ServeEnd
 where
     R: Net<Listener = TcpListener, Stream = TcpStream>
         + Threads
@@ -108,17 +153,14 @@ where
         log_listening(rt, address, settings);
     }
     log_start(&OperatorLog::new(host), alloc, settings);
-    let Ok(start) = first_start(alloc, settings) else {
-        return ServeEnd::Memory;
-    };
     match run_server(rt, alloc, settings, &listener, None, start) {
         Ok(()) => ServeEnd::Done,
         Err(_) => ServeEnd::Memory,
     }
 }
 
-/// Reads the arguments, listens, and serves; files are the host's. Logs to standard error where it listens, and the result of each
-/// encoder's body.
+/// Reads the arguments, opens the journal if there is one, listens, and serves; files are the host's. Logs to standard error where it
+/// listens, what was restored, and the result of each encoder's body.
 pub fn run_serve<'a, S: AsStr, R>(
     rt: &R,
     host: &HostRuntime,
@@ -140,15 +182,22 @@ where
         Err(SettingsFault::Memory) => return ServeEnd::Memory,
         Err(fault) => return ServeEnd::Usage(fault),
     };
-    if let Err(fault) = read_sync_setting(arguments) {
-        return ServeEnd::Sync(fault);
-    }
-    if find_journal_argument(arguments).is_some() {
-        return ServeEnd::JournalFailed;
+    let sync = match read_sync_setting(arguments) {
+        Ok(sync) => sync,
+        Err(fault) => return ServeEnd::Sync(fault),
+    };
+    let folder = find_journal_argument(arguments);
+    if folder == Some("") {
+        return ServeEnd::NoFolder;
     }
     let settings = match with_base(host, settings, find_base_argument(arguments)) {
         Ok(settings) => settings,
         Err(fault) => return ServeEnd::Base(fault),
     };
-    serve_channel(rt, host, alloc, &settings)
+    match start_channel(host, alloc, &settings, folder, sync) {
+        Ok(start) => serve_channel(rt, host, alloc, &settings, start),
+        Err(JournalStop::Memory) => ServeEnd::Memory,
+        Err(JournalStop::Other) => ServeEnd::OtherJournal,
+        Err(JournalStop::Failed) => ServeEnd::JournalFailed,
+    }
 }
