@@ -4,7 +4,7 @@
 _hls_origin() {
     local word=${COMP_WORDS[COMP_CWORD]} command=${COMP_WORDS[1]-}
     if [ "$COMP_CWORD" -eq 1 ]; then
-        mapfile -t COMPREPLY < <(compgen -W "cut check lint explain serve size help --help --version" -- "$word")
+        mapfile -t COMPREPLY < <(compgen -W "cut check lint explain serve size journal help --help --version" -- "$word")
     elif [ "$command" = explain ]; then
         mapfile -t COMPREPLY < <(compgen -W "$(hls_origin explain)" -- "$word")
     elif [[ $word == -* && $command =~ ^(cut|check|lint|serve|size)$ ]]; then
