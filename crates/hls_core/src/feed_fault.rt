@@ -19,7 +19,7 @@ pub enum StreamFault {
     Media(MediaFault),
     /// The channel refuses a part: `NoInit` for a unit before any init section, `InitChanged`, `Overlap`, ..
     Core(Refusal),
-    /// A unit begins so far behind the newest end of all renditions that its clock is taken for wrong.
+    /// A unit begins so far after the newest end of all renditions that its clock must be wrong.
     AheadOfChannel,
 }
 

@@ -19,7 +19,7 @@ segments s = segments_over (line_goal_of s.config) (sources s)
 abbrev pub removed_segments : State → List LiveSegment
 removed_segments s = take (line s).removed (segments s)
 
--- no cut before segment n will do, and the segments before have so many marks
+-- no cut before segment n will do, and the segments before have this number of marks
 pub record IsCutLeft (s : State) (n marks : ℕ) : Type 0 where
   pub same : cut_in (floors s) n marks (drop n (removed_segments s)) (front_cut s) ≡ first_cut s
   pub few : marks ≤ n
