@@ -3,3 +3,4 @@ pub mod LogFiles
 pub mod Batches
 pub mod Writes
 pub mod Followed
+pub mod StartRecords

@@ -261,3 +261,17 @@ fn into_write(event: Event, at: u64) -> Option<MediaWrite>
         _ => None,
     }
 }
+
+/// Returns the position of a journal that has the records of a state of a channel.
+pub(crate) fn find_position(alloc: Global, snapshot: &Snapshot) -> Result<Position, AllocError> {
+    let mut counts = vec![in alloc; 0u64; RENDITIONS]?;
+    for (rendition, count) in counts.iter_mut().enumerate() {
+        if let Some(recording) = snapshot.recording(rendition) {
+            *count = recording.count();
+        }
+    }
+    Ok(Position {
+        version: snapshot.version(),
+        counts,
+    })
+}

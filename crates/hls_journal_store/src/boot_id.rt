@@ -1,5 +1,8 @@
 //! The kernel's boot id: on the same boot nothing that was written is lost.
 
+ghost use Rattle.std.specs.Prelude.{◌≡◌};
+ghost use Rattle.hls_journal_store.specs.StartRecords.{is_same_boot};
+
 use std::fs::{self, File};
 use std::io::Read;
 use std::rt::Files;
@@ -17,6 +20,13 @@ pub(crate) fn read_boot_id<R: Files<File = File>>(rt: &R) -> [u8; 16] {
         return [0; 16];
     }
     parse_boot_id(&text)
+}
+
+/// Whether two ids are of the same boot. Zeros are of no boot.
+pub(crate) fn is_same_boot(a: &[u8; 16], b: &[u8; 16]) -> bool
+    ensures { result ≡ is_same_boot a.now b.now }
+{
+    *a == *b && *a != [0; 16]
 }
 
 /// Returns the bytes that hexadecimal digits stand for; other characters are passed over.

@@ -5,15 +5,14 @@ ghost use Rattle.hls_journal_store.specs.declared.sync_mode.SyncMode.TheVariants
 ghost use Rattle.hls_journal_store.specs.Followed.{Grows, IsDurable};
 
 use crate::batch::{Position, make_batch};
-use crate::fault::{EndCause, StoreFault};
+use crate::fault::{EndCause, StoreFault, StorePart, write_fault};
 use crate::log_file::LogFile;
 use crate::media_files::MediaFiles;
 use crate::media_track::open_and_sync;
-use crate::records::{append_body, append_closed, append_point, sync_log, write_records};
+use crate::records::{append_closed, append_point, sync_log, write_records};
 use crate::store_paths::StorePaths;
 use crate::sync_mode::SyncMode;
 use hls_core::snapshot::Snapshot;
-use hls_journal::make_ids_body;
 use hls_journal_log::Log;
 use sqlite_disk::Disk;
 use std::alloc::Global;
@@ -22,7 +21,7 @@ use std::io;
 use std::rt::Files;
 
 /// The most log entries of one write.
-const BATCH_ENTRIES: u64 = 4096;
+pub(crate) const BATCH_ENTRIES: u64 = 4096;
 
 /// Writes the journal of a channel into its folder, which it has locked.
 ///
@@ -39,6 +38,8 @@ pub struct Follower<D: Disk + Drop> {
     /// Why the journal has ended.
     pub(crate) ended: Option<EndCause>,
     pub(crate) paths: StorePaths,
+    /// The first job id that isn't reserved.
+    pub(crate) next_ids: u64,
     /// Holds the folder's lock.
     pub(crate) lock: File,
 }
@@ -67,7 +68,7 @@ impl<D: Disk + Drop> Follower<D> {
         ensures grows { OnOk result (Grows snapshot.now self.old.position self.new.position self.old.log.next self.new.log.next self.old.log.end self.new.log.end (D.seen self.old.log.disk) (D.seen self.new.log.disk)) }
         ensures durable { OnOk result (self.old.mode ≡ sync_mode.Each → self.old.position.version < length snapshot.now.log → IsDurable snapshot.now self.old.position self.new.position self.old.log.next self.old.log.end (D.seen self.old.log.disk) (D.may_leave self.new.log.disk)) }
     {
-        self.check()?;
+        check_open(rt, &self.paths, &self.lock, &mut self.ended)?;
         let outcome = self.write_news(rt, alloc, snapshot);
         note_end(&mut self.ended, outcome)?;
         Ok(self.position.version)
@@ -87,7 +88,8 @@ impl<D: Disk + Drop> Follower<D> {
         'batches: while self.position.version < version {
             self.write_batch(rt, alloc, snapshot)?;
         }
-        self.media.follow_trims(rt, alloc, snapshot, self.mode)?;
+        self.media
+            .follow_trims(rt, alloc, snapshot, self.mode, &self.paths.log)?;
         Ok(())
     }
 
@@ -118,7 +120,7 @@ impl<D: Disk + Drop> Follower<D> {
 
     /// Makes all that was written durable, and removes the files of trimmed media.
     pub fn sync<R: Files<File = File>>(&mut self, rt: &R, alloc: Global) -> Result<(), StoreFault> {
-        self.check()?;
+        check_open(rt, &self.paths, &self.lock, &mut self.ended)?;
         let outcome = self.sync_all(rt, alloc);
         note_end(&mut self.ended, outcome)
     }
@@ -130,13 +132,6 @@ impl<D: Disk + Drop> Follower<D> {
             append_point(&mut self.log, alloc, &mut self.point_end)?;
         }
         self.media.remove_trimmed(rt, alloc)
-    }
-
-    /// Writes that job ids below `ids` may have been given out.
-    pub fn reserve_ids(&mut self, alloc: Global, ids: u64) -> Result<(), StoreFault> {
-        self.check()?;
-        let outcome = append_body(&mut self.log, alloc, make_ids_body(alloc, ids));
-        note_end(&mut self.ended, outcome)
     }
 
     /// Writes what a last state of the channel has grown by, and that the channel was closed, and syncs.
@@ -152,26 +147,39 @@ impl<D: Disk + Drop> Follower<D> {
         note_end(&mut self.ended, outcome)
     }
 
-    /// Marks the folder: players may see more of the channel than the log has. A start refuses a marked folder.
+    /// Marks the folder: players may see more of the channel than the log has. A start refuses a marked folder. Fails if the folder was
+    /// moved or removed.
     pub fn mark<R: Files<File = File>>(&self, rt: &R) -> io::Result<()> {
+        self.paths.find_lock(rt, &self.lock)?;
         // a rename needs no room on the disk
         if fs::rename(rt, &self.paths.spare, &self.paths.marker).is_err() {
             File::create(rt, &self.paths.marker)?.sync_all()?;
         }
         open_and_sync(rt, &self.paths.folder)
     }
+}
 
-    /// Fails if the journal has ended.
-    fn check(&self) -> Result<(), StoreFault> {
-        match self.ended {
-            Some(cause) => Err(StoreFault::Ended(cause)),
-            None => Ok(()),
-        }
+/// Fails if a journal has ended. It ends if its folder was moved or removed.
+pub(crate) fn check_open<R: Files<File = File>>(
+    rt: &R,
+    paths: &StorePaths,
+    lock: &File,
+    ended: &mut Option<EndCause>,
+) -> Result<(), StoreFault> {
+    if let Some(cause) = *ended {
+        return Err(StoreFault::Ended(cause));
+    }
+    match paths.find_lock(rt, lock) {
+        Ok(()) => Ok(()),
+        Err(error) => note_end(ended, Err(write_fault(StorePart::Folder, error))),
     }
 }
 
 /// Notes that a journal has ended, if a call failed so.
-fn note_end(ended: &mut Option<EndCause>, outcome: Result<(), StoreFault>) -> Result<(), StoreFault>
+pub(crate) fn note_end(
+    ended: &mut Option<EndCause>,
+    outcome: Result<(), StoreFault>,
+) -> Result<(), StoreFault>
     ensures { result ≡ outcome }
 {
     if let Err(StoreFault::Ended(cause)) = outcome {

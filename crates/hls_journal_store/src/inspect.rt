@@ -1,23 +1,25 @@
 //! Reports what a journal's folder holds, and closes the journal of a process that has ended.
 
 use crate::batch::RENDITIONS;
-use crate::boot_id::read_boot_id;
+use crate::boot_id::{is_same_boot, read_boot_id};
 use crate::fault::{OpenFault, StorePart, open_fault};
 use crate::kept_units::{MediaIndex, find_kept_units};
 use crate::media_read::{freeze, make_zeros, read_unit};
 use crate::media_span::find_span;
+use crate::media_starts::MediaStarts;
 use crate::media_track::{media_path, open_and_sync};
 use crate::records::append_closed;
 use crate::start_record::{StartRecord, find_start};
 use crate::store_paths::{StorePaths, is_there};
 use crate::sync_mode::SyncMode;
 use bytes::Bytes;
-use hls_journal::{find_ids, is_closed};
+use hls_journal::is_closed;
 use hls_journal_log::{LogContent, begin_log, read_disk, read_log};
 use sqlite_disk::digest_of;
 use std::alloc::Global;
-use std::fs::File;
+use std::fs::{self, File};
 use std::io::{self, ErrorKind};
+use std::ops::Range;
 use std::os::unix::fs::FileExt;
 use std::rt::Files;
 
@@ -68,15 +70,16 @@ pub fn inspect_store<R: Files<File = File>>(
         missing: 0,
         media_bytes: 0,
         was_closed,
-        same_boot: last.boot == boot,
+        same_boot: is_same_boot(&last.boot, &boot),
         may_lack: last.may_lack(&boot, was_closed),
     };
-    check_units(rt, alloc, &paths.media, &index, &mut report)?;
+    let starts = MediaStarts::of_log(&content.bodies);
+    check_units(rt, alloc, &paths.media, &index, &starts, &mut report)?;
     Ok(report)
 }
 
 /// Returns what the last process that wrote has noted. A log without such a record is of no boot.
-fn last_start(bodies: &[Bytes]) -> StartRecord {
+pub(crate) fn last_start(bodies: &[Bytes]) -> StartRecord {
     find_start(bodies, StartRecord::new([0; 16], SyncMode::Never, [0; 16]))
 }
 
@@ -86,10 +89,11 @@ fn check_units<R: Files<File = File>>(
     alloc: Global,
     folder: &str,
     index: &MediaIndex,
+    starts: &MediaStarts,
     report: &mut StoreReport,
 ) -> Result<(), OpenFault> {
     for unit in &index.units {
-        match read_unit(rt, alloc, folder, unit)? {
+        match read_unit(rt, alloc, folder, unit, starts)? {
             Some(bytes) if digest_of(unit.at, &bytes) == unit.sum => {
                 report.media_bytes = report.media_bytes.saturating_add(unit.len as u64);
             }
@@ -100,7 +104,11 @@ fn check_units<R: Files<File = File>>(
 }
 
 /// Returns the bytes of a file.
-fn read_file<R: Files<File = File>>(rt: &R, alloc: Global, path: &str) -> Result<Bytes, OpenFault> {
+pub(crate) fn read_file<R: Files<File = File>>(
+    rt: &R,
+    alloc: Global,
+    path: &str,
+) -> Result<Bytes, OpenFault> {
     let (file, len) = match open_to_read(rt, path) {
         Ok(opened) => opened,
         Err(error) => return Err(open_fault(StorePart::Log, error)),
@@ -121,19 +129,25 @@ fn open_to_read<R: Files<File = File>>(rt: &R, path: &str) -> io::Result<(File, 
 /// Closes the journal in a folder, of a process that has ended: writes that it was closed, and makes everything durable. What follows
 /// the last complete record is cut off. Does nothing if there is no record, or if the process ran before the machine was restarted: what
 /// is missing then is for the next start to find.
+///
+/// # Errors
+/// As for `open_store`; `Disk` with `NotFound` if the folder has no log, and nothing is made then.
 pub fn close_store<R: Files<File = File>>(
     rt: &R,
     alloc: Global,
     folder: &str,
 ) -> Result<(), OpenFault> {
     let paths = StorePaths::new(alloc, folder)?;
+    if let Err(error) = fs::metadata(rt, &paths.log) {
+        return Err(open_fault(StorePart::Log, error));
+    }
     let _lock = paths.lock(rt)?;
     let mut disk = paths.open_log(rt)?;
     let read = read_disk(alloc, &mut disk)?;
     if read.content.bodies.is_empty() || is_closed(&read.content.bodies) {
         return Ok(());
     }
-    if last_start(&read.content.bodies).boot != read_boot_id(rt) {
+    if !is_same_boot(&last_start(&read.content.bodies).boot, &read_boot_id(rt)) {
         return Ok(());
     }
     sync_media(rt, alloc, &paths.media, &read.content)?;
@@ -153,28 +167,31 @@ pub(crate) fn sync_media<R: Files<File = File>>(
     content: &LogContent,
 ) -> Result<(), OpenFault> {
     let index = find_kept_units(alloc, &content.bodies)?;
+    let starts = MediaStarts::of_log(&content.bodies);
     for rendition in 0..RENDITIONS {
         if index.total(rendition) > 0 {
             let folder = format!(in alloc; "{folder}/{rendition}")?;
+            let start = starts.get(rendition);
+            let end = start.saturating_add(index.total(rendition));
             sync_files(
                 rt,
                 alloc,
                 &folder,
-                find_span(index.total(rendition), 0).number,
+                find_span(start, 0).number..find_span(end, 1).number.saturating_add(1),
             )?;
         }
     }
     Ok(())
 }
 
-/// Syncs the media files in a folder up to a number, and the folder. Those that were removed are passed over.
+/// Syncs the media files with these numbers in a folder, and the folder. Those that were removed are passed over.
 fn sync_files<R: Files<File = File>>(
     rt: &R,
     alloc: Global,
     folder: &str,
-    last: u64,
+    numbers: Range<u64>,
 ) -> Result<(), OpenFault> {
-    for number in 0..last.saturating_add(1) {
+    for number in numbers {
         sync_if_there(rt, &media_path(alloc, folder, number)?)?;
     }
     sync_if_there(rt, folder)

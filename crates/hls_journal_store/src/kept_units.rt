@@ -77,6 +77,11 @@ impl MediaIndex {
         Ok(())
     }
 
+    /// Returns the number of units of a rendition, also of those that are trimmed.
+    pub(crate) fn count(&self, rendition: usize) -> u64 {
+        self.counts.get(rendition).copied().unwrap_or(0)
+    }
+
     /// Returns the bytes of a rendition's resource.
     pub fn total(&self, rendition: usize) -> u64 {
         self.totals.get(rendition).copied().unwrap_or(0)

@@ -1,8 +1,9 @@
 //! The media files of all renditions.
 
 use crate::batch::MediaWrite;
-use crate::fault::{EndCause, StoreFault};
-use crate::media_track::MediaTrack;
+use crate::fault::{EndCause, StoreFault, StorePart, sync_fault};
+use crate::media_starts::MediaStarts;
+use crate::media_track::{MediaTrack, open_and_sync};
 use crate::sync_mode::SyncMode;
 use hls_core::snapshot::Snapshot;
 use std::alloc::{AllocError, Global};
@@ -20,16 +21,18 @@ pub(crate) struct MediaFiles {
 }
 
 impl MediaFiles {
-    /// The media files below a folder.
+    /// The media files below a folder, of a channel that begins at these places.
     pub(crate) fn new(
         alloc: Global,
         folder: &str,
         renditions: usize,
+        starts: &MediaStarts,
     ) -> Result<MediaFiles, AllocError> {
         let mut tracks = Vec::new(alloc);
         let mut kept = Vec::new(alloc);
         for rendition in 0..renditions {
-            tracks.push(MediaTrack::new(format!(in alloc; "{folder}/{rendition}")?))?;
+            let folder = format!(in alloc; "{folder}/{rendition}")?;
+            tracks.push(MediaTrack::new(folder, starts.get(rendition)))?;
             kept.push(0)?;
         }
         Ok(MediaFiles {
@@ -37,6 +40,16 @@ impl MediaFiles {
             tracks,
             kept,
         })
+    }
+
+    /// Continues with a log of a channel that begins at these places.
+    pub(crate) fn continue_from(&mut self, starts: &MediaStarts) {
+        for (rendition, track) in self.tracks.iter_mut().enumerate() {
+            track.continue_from(starts.get(rendition));
+        }
+        for kept in &mut self.kept {
+            *kept = 0;
+        }
     }
 
     /// Stores the media of records. In the mode `Each` they are durable then.
@@ -67,19 +80,47 @@ impl MediaFiles {
         Ok(())
     }
 
-    /// Notes which media a channel has trimmed, and removes their files. In the mode `Timed` a later call removes them.
+    /// Notes which media a channel has trimmed. In the mode `Each` their files are removed; in the mode `Timed` by a later call, once the
+    /// records of the trims are durable. In the mode `Never` the log, at this path, is synced first: a start needs each unit that no
+    /// record trims.
     pub(crate) fn follow_trims<R: Files<File = File>>(
         &mut self,
         rt: &R,
         alloc: Global,
         snapshot: &Snapshot,
         mode: SyncMode,
+        log: &str,
     ) -> Result<(), StoreFault> {
         self.note_trims(snapshot);
         match mode {
             SyncMode::Timed => Ok(()),
-            _ => self.remove_trimmed(rt, alloc),
+            SyncMode::Each => self.remove_trimmed(rt, alloc),
+            SyncMode::Never => self.remove_after_sync(rt, alloc, log),
         }
+    }
+
+    /// Removes the files of trimmed media, if there are any, after a log was synced.
+    fn remove_after_sync<R: Files<File = File>>(
+        &mut self,
+        rt: &R,
+        alloc: Global,
+        log: &str,
+    ) -> Result<(), StoreFault> {
+        if !self.has_trimmed() {
+            return Ok(());
+        }
+        if let Err(error) = open_and_sync(rt, log) {
+            return Err(sync_fault(StorePart::Log, error));
+        }
+        self.remove_trimmed(rt, alloc)
+    }
+
+    /// Whether a file has nothing but trimmed media.
+    fn has_trimmed(&self) -> bool {
+        self.tracks
+            .iter()
+            .zip(self.kept.iter())
+            .any(|(track, kept)| track.has_below(*kept))
     }
 
     /// Notes which media a channel has trimmed.

@@ -5,6 +5,7 @@ ghost use Rattle.std.specs.Prelude.{◌≡◌, length, IfOk};
 use crate::fault::{OpenFault, StorePart, open_fault};
 use crate::kept_units::{KeptUnit, MediaIndex};
 use crate::media_span::find_span;
+use crate::media_starts::MediaStarts;
 use crate::media_track::media_path;
 use bytes::{Bytes, BytesMut};
 use hls_boxes::kinds::UNIT_LIMIT;
@@ -15,20 +16,22 @@ use std::io::{self, ErrorKind};
 use std::os::unix::fs::FileExt;
 use std::rt::Files;
 
-/// Reads the units of an index, of each of the given number of renditions. What the files don't have is left out.
+/// Reads the units of an index, of each of the given number of renditions, of a channel that begins at these places. What the files don't
+/// have is left out.
 pub(crate) fn read_media<R: Files<File = File>>(
     rt: &R,
     alloc: Global,
     folder: &str,
     index: &MediaIndex,
     renditions: usize,
+    starts: &MediaStarts,
 ) -> Result<Vec<StoredMedia>, OpenFault> {
     let mut media = make_media(alloc, renditions)?;
     for unit in &index.units {
         let Some(stored) = media.get_mut(unit.rendition) else {
             continue;
         };
-        if let Some(bytes) = read_unit(rt, alloc, folder, unit)? {
+        if let Some(bytes) = read_unit(rt, alloc, folder, unit, starts)? {
             push_piece(stored, unit.at, bytes)?;
         }
     }
@@ -50,19 +53,21 @@ fn make_media(alloc: Global, renditions: usize) -> Result<Vec<StoredMedia>, Allo
     Ok(media)
 }
 
-/// Reads the bytes of a unit; `None` if the files don't have them all.
+/// Reads the bytes of a unit of a channel that begins at these places; `None` if the files don't have them all.
 pub(crate) fn read_unit<R: Files<File = File>>(
     rt: &R,
     alloc: Global,
     folder: &str,
     unit: &KeptUnit,
+    starts: &MediaStarts,
 ) -> Result<Option<Bytes>, OpenFault> {
     if unit.len as u64 > UNIT_LIMIT {
         return Ok(None);
     }
     let folder = format!(in alloc; "{folder}/{}", unit.rendition)?;
     let mut bytes = make_zeros(alloc, unit.len)?;
-    match read_spans(rt, alloc, &folder, unit.at, &mut bytes) {
+    let place = starts.get(unit.rendition).saturating_add(unit.at);
+    match read_spans(rt, alloc, &folder, place, &mut bytes) {
         Ok(()) => Ok(Some(freeze(bytes)?)),
         Err(error) if error.kind() == ErrorKind::NotFound => Ok(None),
         Err(error) if error.kind() == ErrorKind::UnexpectedEof => Ok(None),
@@ -80,17 +85,17 @@ pub(crate) fn freeze(bytes: BytesMut) -> Result<Bytes, AllocError> {
     Ok(bytes.freeze()?)
 }
 
-/// Reads bytes at an offset of a resource out of the files in a folder.
+/// Reads bytes at a place out of the files in a folder.
 fn read_spans<R: Files<File = File>>(
     rt: &R,
     alloc: Global,
     folder: &str,
-    at: u64,
+    place: u64,
     bytes: &mut [u8],
 ) -> io::Result<()> {
     let mut done = 0;
     'spans: while done < bytes.len() {
-        let span = find_span(at.saturating_add(done as u64), bytes.len() - done);
+        let span = find_span(place.saturating_add(done as u64), bytes.len() - done);
         let file = File::open(rt, media_path(alloc, folder, span.number)?)?;
         file.read_exact_at(&mut bytes[done..done + span.len], span.place)?;
         done += span.len;

@@ -1,11 +1,12 @@
-//! Where the bytes of a rendition's resource are stored: byte x in file x / 64 MiB, at x mod 64 MiB.
+//! Where the bytes of a rendition's resource are stored: place x in file x / 64 MiB, at x mod 64 MiB. The place of a byte is its offset
+//! in the resource and what precedes the resource by the channel's base, so a unit keeps its place when the channel is renewed.
 
 ghost use Rattle.std.specs.Prelude.{◌≡◌, ◌-◌, ◌/◌, ◌%◌, ◌<◌, min};
 
 /// The bytes of a media file.
 pub const MEDIA_FILE_LEN: u64 = 67108864;
 
-/// Bytes of a resource that are in one media file.
+/// Consecutive bytes that are in one media file.
 #[derive(Clone, Copy, Drop)]
 pub struct MediaSpan {
     /// The number of the file.
@@ -16,7 +17,7 @@ pub struct MediaSpan {
     pub len: usize,
 }
 
-/// Returns the place of the first of `len` bytes from an offset on, and how many of them are in that file.
+/// Returns where the first of `len` bytes from a place on is, and how many of them are in that file.
 pub fn find_span(at: u64, len: usize) -> MediaSpan
     ensures number { result.number ≡ at / 67108864 }
     ensures place { result.place ≡ at % 67108864 }

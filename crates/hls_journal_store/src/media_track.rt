@@ -13,6 +13,8 @@ use std::rt::Files;
 pub(crate) struct MediaTrack {
     /// The folder.
     folder: String,
+    /// The place of the resource's first byte: how many bytes of units precede those of the channel's log.
+    start: u64,
     /// The file that was written to last.
     file: Option<File>,
     /// Its number.
@@ -26,15 +28,22 @@ pub(crate) struct MediaTrack {
 }
 
 impl MediaTrack {
-    pub(crate) fn new(folder: String) -> MediaTrack {
+    /// The files of a channel whose log begins after `start` bytes of units.
+    pub(crate) fn new(folder: String, start: u64) -> MediaTrack {
         MediaTrack {
             folder,
+            start,
             file: None,
             number: 0,
             unsynced: false,
             renamed: false,
-            first: 0,
+            first: find_span(start, 0).number,
         }
+    }
+
+    /// Continues with a log that begins after `start` bytes of units: what is stored stays in its place.
+    pub(crate) fn continue_from(&mut self, start: u64) {
+        self.start = start;
     }
 
     /// Stores bytes at an offset of the resource.
@@ -47,7 +56,8 @@ impl MediaTrack {
     ) -> Result<(), StoreFault> {
         let mut done = 0;
         'spans: while done < bytes.len() {
-            let span = find_span(at.saturating_add(done as u64), bytes.len() - done);
+            let place = self.start.saturating_add(at).saturating_add(done as u64);
+            let span = find_span(place, bytes.len() - done);
             self.select_file(rt, alloc, span.number)?;
             self.write_span(span.place, &bytes[done..done + span.len])?;
             done += span.len;
@@ -116,6 +126,17 @@ impl MediaTrack {
         Ok(())
     }
 
+    /// Whether there may be a file that ends before an offset.
+    pub(crate) fn has_below(&self, at: u64) -> bool {
+        self.first < self.end_below(at)
+    }
+
+    /// Returns the number after that of the last file that ends before an offset. The file that is written to counts as later.
+    fn end_below(&self, at: u64) -> u64 {
+        let place = self.start.saturating_add(at);
+        find_span(place, 0).number.min(self.number)
+    }
+
     /// Removes the files that end before an offset. One that can't be removed is tried again in the next call.
     pub(crate) fn remove_below<R: Files<File = File>>(
         &mut self,
@@ -123,7 +144,7 @@ impl MediaTrack {
         alloc: Global,
         at: u64,
     ) -> Result<(), StoreFault> {
-        let end = find_span(at, 0).number.min(self.number);
+        let end = self.end_below(at);
         'files: while self.first < end {
             let path = media_path(alloc, &self.folder, self.first)?;
             if !is_removed(fs::remove_file(rt, &path)) {
@@ -133,6 +154,23 @@ impl MediaTrack {
         }
         Ok(())
     }
+}
+
+/// Removes the files before the one with the place `start`, which an earlier log of the channel needed, from the last to the first that
+/// is there. One that can't be removed stays.
+pub(crate) fn remove_before<R: Files<File = File>>(
+    rt: &R,
+    alloc: Global,
+    folder: &str,
+    start: u64,
+) -> Result<(), AllocError> {
+    for number in (0..find_span(start, 0).number).rev() {
+        let path = media_path(alloc, folder, number)?;
+        if fs::remove_file(rt, &path).is_err() {
+            return Ok(());
+        }
+    }
+    Ok(())
 }
 
 /// Whether a file is gone after a call that removes it.

@@ -107,7 +107,7 @@ pub(crate) fn write_records<D: Disk + Drop>(
 }
 
 /// Appends the record with this body.
-pub(crate) fn append_body<D: Disk + Drop>(
+fn append_body<D: Disk + Drop>(
     log: &mut Log<D>,
     alloc: Global,
     body: Result<Vec<u8>, JournalFault>,

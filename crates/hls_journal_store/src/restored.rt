@@ -3,6 +3,7 @@
 use crate::fault::OpenFault;
 use crate::kept_units::find_kept_units;
 use crate::media_read::read_media;
+use crate::media_starts::MediaStarts;
 use byteorder::{ByteOrder, LittleEndian};
 use bytes::Bytes;
 use hls_core::base::Base;
@@ -69,6 +70,7 @@ fn restore_first<R: Files<File = File>>(
         source.media,
         &index,
         source.config.renditions().len(),
+        &MediaStarts::of_base(&source.base),
     )?;
     let config = source.config.share()?.with_base(source.base);
     let snapshot = restore_records(alloc, config, records, &stored)?;

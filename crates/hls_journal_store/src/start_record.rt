@@ -1,7 +1,9 @@
 //! The record that a process appends when it begins to write: what a later start has to know of it.
 
 ghost use Rattle.std.specs.Prelude.{◌≡◌, IsFalse, IsTrue, length};
+ghost use Rattle.hls_journal_store.specs.StartRecords.{is_each, may_lack};
 
+use crate::boot_id::is_same_boot;
 use crate::sync_mode::SyncMode;
 use bytes::Bytes;
 use hls_core::base::Base;
@@ -24,7 +26,11 @@ pub(crate) struct StartRecord {
 
 impl StartRecord {
     /// What a process notes that begins to write on this boot.
-    pub(crate) fn new(boot: [u8; 16], mode: SyncMode, run: [u8; 16]) -> StartRecord {
+    pub(crate) fn new(boot: [u8; 16], mode: SyncMode, run: [u8; 16]) -> StartRecord
+        ensures boot { result.boot ≡ boot }
+        ensures synced { result.is_synced ≡ is_each mode }
+        ensures run { result.run ≡ run }
+    {
         StartRecord {
             boot,
             is_synced: matches!(mode, SyncMode::Each),
@@ -34,8 +40,10 @@ impl StartRecord {
 
     /// Whether players may have seen more of the channel than the journal has, at a start on the given boot: the machine ended before
     /// the journal was closed, and what was reported wasn't synced.
-    pub(crate) fn may_lack(&self, boot: &[u8; 16], was_closed: bool) -> bool {
-        self.boot != *boot && !was_closed && !self.is_synced
+    pub(crate) fn may_lack(&self, boot: &[u8; 16], was_closed: bool) -> bool
+        ensures { result ≡ may_lack self.now boot.now was_closed }
+    {
+        !is_same_boot(&self.boot, boot) && !was_closed && !self.is_synced
     }
 }
 

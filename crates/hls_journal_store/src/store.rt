@@ -1,32 +1,31 @@
 //! Opens the folder of a journal.
 
-use crate::batch::{Position, RENDITIONS, into_bytes};
-use crate::boot_id::read_boot_id;
-use crate::fault::{OpenFault, StorePart, open_fault};
+use crate::batch::{Position, find_position, into_bytes};
+use crate::begun_log::{RESERVED_IDS, begin_records};
+use crate::boot_id::{is_same_boot, read_boot_id};
+use crate::fault::OpenFault;
 use crate::follower::{Follower, StoreFollower};
 use crate::inspect::sync_media;
 use crate::log_file::LogFile;
+use crate::long_log::{is_renewal_due, renew_channel};
 use crate::media_files::MediaFiles;
-use crate::records::{append_point, append_records, sync_log};
+use crate::media_starts::MediaStarts;
+use crate::media_track::remove_before;
+use crate::renewal::renew_store;
 use crate::restored::{Source, count_bytes, count_synced, restore_prefix};
-use crate::start_record::{StartRecord, choose_run, find_start, make_start_body, with_run};
+use crate::start_record::{StartRecord, choose_run, find_start, with_run};
 use crate::store_paths::{StorePaths, is_there};
 use crate::sync_mode::SyncMode;
 use bytes::Bytes;
 use hls_core::base::Base;
 use hls_core::config::Config;
 use hls_core::snapshot::Snapshot;
-use hls_journal::{
-    ChannelHeader, find_ids, is_closed, make_channel_body, make_ids_body, read_channel,
-};
-use hls_journal_log::{Log, ReadLog, begin_log, read_disk};
+use hls_journal::{ChannelHeader, find_ids, is_closed, make_channel_body, read_channel};
+use hls_journal_log::{Log, ReadLog, read_disk};
 use std::alloc::{AllocError, Global};
 use std::fs::File;
 use std::rt::Files;
 use std::sync::Arc;
-
-/// How many job ids a start reserves: more than a process gives out.
-const RESERVED_IDS: u64 = 4294967296;
 
 /// An open journal, and its channel.
 #[derive(Drop)]
@@ -87,14 +86,6 @@ struct ChannelFiles {
     position: Position,
 }
 
-/// A log to which a process begins to write.
-#[derive(Drop)]
-struct BegunLog {
-    log: Log<LogFile>,
-    /// How long it was when the last sync point was appended.
-    point_end: usize,
-}
-
 /// Opens the journal in a folder, which is made if it is missing, and restores its channel. `config.base` counts only for a new
 /// channel; another one has the base of its first record, with the run of the last process.
 ///
@@ -116,10 +107,11 @@ pub fn open_store<R: Files<File = File>>(
 ) -> Result<OpenedStore, OpenFault> {
     let paths = StorePaths::new(alloc, folder)?;
     let lock = paths.lock(rt)?;
+    paths.remove_new_log(rt);
     let own = StartRecord::new(read_boot_id(rt), mode, new_run);
     let open = open_log(rt, alloc, &paths, config, own)?;
-    let files = find_files(alloc, &paths.media, &open.snapshot)?;
-    Ok(OpenedStore {
+    let files = find_files(rt, alloc, &paths.media, &open.snapshot)?;
+    let mut opened = OpenedStore {
         follower: Follower {
             log: open.log,
             point_end: open.point_end,
@@ -127,12 +119,32 @@ pub fn open_store<R: Files<File = File>>(
             position: files.position,
             mode,
             ended: None,
+            next_ids: open.start.first_job.saturating_add(RESERVED_IDS),
             paths,
             lock,
         },
         snapshot: open.snapshot,
         start: open.start,
-    })
+    };
+    shorten_log(rt, alloc, &mut opened)?;
+    Ok(opened)
+}
+
+/// Renews a channel whose log is long. One that can't be renewed keeps its log.
+fn shorten_log<R: Files<File = File>>(
+    rt: &R,
+    alloc: Global,
+    opened: &mut OpenedStore,
+) -> Result<(), OpenFault> {
+    if !is_renewal_due(&opened.snapshot) {
+        return Ok(());
+    }
+    let Ok(renewed) = renew_channel(alloc, &opened.snapshot) else {
+        return Ok(());
+    };
+    opened.start.first_job = renew_store(rt, alloc, &mut opened.follower, &renewed)?;
+    opened.snapshot = renewed;
+    Ok(())
 }
 
 /// Opens the log, restores its channel, and begins to write.
@@ -152,7 +164,14 @@ fn open_log<R: Files<File = File>>(
     }
     keep_records(&mut read, channel.records);
     let run = channel.snapshot.config().base().run();
-    let begun = begin_records(alloc, disk, &read, &channel, &StartRecord { run, ..own })?;
+    let begun = begin_records(
+        alloc,
+        disk,
+        &read,
+        &channel.first,
+        channel.start.first_job,
+        &StartRecord { run, ..own },
+    )?;
     Ok(OpenLog {
         log: begun.log,
         point_end: begun.point_end,
@@ -165,15 +184,21 @@ fn open_log<R: Files<File = File>>(
     })
 }
 
-/// Returns the media files and the position of a journal that has the records of a state of a channel.
-fn find_files(
+/// Removes media that only an earlier log needed. Returns the media files and the position of a journal that has the records of a state of a channel.
+fn find_files<R: Files<File = File>>(
+    rt: &R,
     alloc: Global,
     folder: &str,
     snapshot: &Snapshot,
 ) -> Result<ChannelFiles, AllocError> {
     let renditions = snapshot.config().renditions().len();
+    let starts = MediaStarts::of_base(snapshot.config().base());
+    for rendition in 0..renditions {
+        let folder = format!(in alloc; "{folder}/{rendition}")?;
+        remove_before(rt, alloc, &folder, starts.get(rendition))?;
+    }
     Ok(ChannelFiles {
-        media: MediaFiles::new(alloc, folder, renditions)?,
+        media: MediaFiles::new(alloc, folder, renditions, &starts)?,
         position: find_position(alloc, snapshot)?,
     })
 }
@@ -201,7 +226,7 @@ fn find_channel<R: Files<File = File>>(
         config: &config,
         base: base_of_start(&header, choose_run(may_lack, own.run, &last))?,
     };
-    let same_boot = last.boot == own.boot;
+    let same_boot = is_same_boot(&last.boot, &own.boot);
     let synced = if was_closed || same_boot {
         records.len()
     } else {
@@ -301,55 +326,4 @@ fn new_channel(
 /// Returns the channel before any event.
 fn open_channel(alloc: Global, config: Config) -> Result<Arc<Snapshot>, AllocError> {
     Ok(Arc::new(alloc, Snapshot::first(alloc, config)?)?)
-}
-
-/// Begins to write to a log: cuts off what isn't complete, writes the first record if it is missing, and what a start writes.
-fn begin_records(
-    alloc: Global,
-    disk: LogFile,
-    read: &ReadLog,
-    channel: &LogChannel,
-    own: &StartRecord,
-) -> Result<BegunLog, OpenFault> {
-    let mut log = match begin_log(disk, read) {
-        Ok(log) => log,
-        Err(error) => return Err(open_fault(StorePart::Log, error)),
-    };
-    let ids = make_ids_body(alloc, channel.start.first_job.saturating_add(RESERVED_IDS))?;
-    let bodies = make_start_bodies(alloc, &channel.first, ids, own)?;
-    let mut point_end = 0;
-    append_records(&mut log, alloc, &bodies)?;
-    sync_log(&mut log)?;
-    append_point(&mut log, alloc, &mut point_end)?;
-    Ok(BegunLog { log, point_end })
-}
-
-/// Returns the bodies that a start writes.
-fn make_start_bodies(
-    alloc: Global,
-    first: &Option<Bytes>,
-    ids: Vec<u8>,
-    own: &StartRecord,
-) -> Result<Vec<Bytes>, AllocError> {
-    let mut bodies = Vec::new(alloc);
-    if let Some(first) = first {
-        bodies.push(first.clone()?)?;
-    }
-    bodies.push(into_bytes(ids)?)?;
-    bodies.push(into_bytes(make_start_body(alloc, own)?)?)?;
-    Ok(bodies)
-}
-
-/// Returns the position of a journal that has the records of a state of a channel.
-fn find_position(alloc: Global, snapshot: &Snapshot) -> Result<Position, AllocError> {
-    let mut counts = vec![in alloc; 0u64; RENDITIONS]?;
-    for (rendition, count) in counts.iter_mut().enumerate() {
-        if let Some(recording) = snapshot.recording(rendition) {
-            *count = recording.count();
-        }
-    }
-    Ok(Position {
-        version: snapshot.version(),
-        counts,
-    })
 }

@@ -2,9 +2,11 @@
 
 use crate::fault::{OpenFault, StorePart, open_fault};
 use crate::log_file::{LogFile, settle_log_file};
+use crate::media_track::open_and_sync;
 use std::alloc::{AllocError, Global};
 use std::fs::{self, File, TryLockError};
 use std::io;
+use std::os::unix::fs::MetadataExt;
 use std::rt::Files;
 
 /// The paths of a journal.
@@ -13,6 +15,8 @@ pub(crate) struct StorePaths {
     pub(crate) folder: String,
     pub(crate) lock: String,
     pub(crate) log: String,
+    /// The log of a renewed channel, until it replaces the log.
+    pub(crate) new_log: String,
     pub(crate) media: String,
     pub(crate) marker: String,
     /// A file that becomes the marker.
@@ -25,6 +29,7 @@ impl StorePaths {
             folder: String::from_str(alloc, folder)?,
             lock: format!(in alloc; "{folder}/lock")?,
             log: format!(in alloc; "{folder}/log")?,
+            new_log: format!(in alloc; "{folder}/log.new")?,
             media: format!(in alloc; "{folder}/media")?,
             marker: format!(in alloc; "{folder}/behind")?,
             spare: format!(in alloc; "{folder}/spare")?,
@@ -33,6 +38,18 @@ impl StorePaths {
 
     /// Locks the folder, which is made if it is missing. The lock is held until the file is dropped. A marked folder is refused.
     pub(crate) fn lock<R: Files<File = File>>(&self, rt: &R) -> Result<File, OpenFault> {
+        let lock = self.lock_file(rt)?;
+        if is_there(rt, &self.marker) {
+            return Err(OpenFault::Marked);
+        }
+        match open_or_create(rt, &self.spare) {
+            Ok(_) => Ok(lock),
+            Err(error) => Err(open_fault(StorePart::Marker, error)),
+        }
+    }
+
+    /// The same, also of a marked folder.
+    pub(crate) fn lock_file<R: Files<File = File>>(&self, rt: &R) -> Result<File, OpenFault> {
         if let Err(error) = fs::create_dir_all(rt, &self.media) {
             return Err(open_fault(StorePart::Folder, error));
         }
@@ -41,16 +58,19 @@ impl StorePaths {
             Err(error) => return Err(open_fault(StorePart::Lock, error)),
         };
         match lock.try_lock() {
-            Ok(()) => {}
-            Err(TryLockError::WouldBlock) => return Err(OpenFault::Busy),
-            Err(TryLockError::Error(error)) => return Err(open_fault(StorePart::Lock, error)),
+            Ok(()) => Ok(lock),
+            Err(TryLockError::WouldBlock) => Err(OpenFault::Busy),
+            Err(TryLockError::Error(error)) => Err(open_fault(StorePart::Lock, error)),
         }
-        if is_there(rt, &self.marker) {
-            return Err(OpenFault::Marked);
-        }
-        match open_or_create(rt, &self.spare) {
-            Ok(_) => Ok(lock),
-            Err(error) => Err(open_fault(StorePart::Marker, error)),
+    }
+
+    /// Fails if the locked file isn't in the folder any more: what has this path now may be another process's.
+    pub(crate) fn find_lock<R: Files<File = File>>(&self, rt: &R, lock: &File) -> io::Result<()> {
+        let (mine, found) = (lock.metadata()?, fs::symlink_metadata(rt, &self.lock)?);
+        if mine.dev() == found.dev() && mine.ino() == found.ino() {
+            Ok(())
+        } else {
+            Err(io::ErrorKind::NotFound.into())
         }
     }
 
@@ -66,6 +86,26 @@ impl StorePaths {
         let file = open_or_create(rt, &self.log)?;
         let folder = File::open(rt, &self.folder)?;
         settle_log_file(file, &folder)
+    }
+
+    /// Removes what an attempt to replace the log has left.
+    pub(crate) fn remove_new_log<R: Files<File = File>>(&self, rt: &R) {
+        let _ = fs::remove_file(rt, &self.new_log);
+    }
+
+    /// Makes an empty log beside the log. One that an earlier attempt left is lost.
+    pub(crate) fn create_new_log<R: Files<File = File>>(&self, rt: &R) -> io::Result<LogFile> {
+        let mut options = File::options();
+        options.read(true).write(true).create(true).truncate(true);
+        let file = options.open(rt, &self.new_log)?;
+        let folder = File::open(rt, &self.folder)?;
+        settle_log_file(file, &folder)
+    }
+
+    /// Replaces the log by the one beside it, which was synced. A crash leaves the one or the other.
+    pub(crate) fn replace_log<R: Files<File = File>>(&self, rt: &R) -> io::Result<()> {
+        fs::rename(rt, &self.new_log, &self.log)?;
+        open_and_sync(rt, &self.folder)
     }
 }
 

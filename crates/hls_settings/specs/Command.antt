@@ -26,7 +26,7 @@ abbrev pub named_app : App
 named_app = without_name (new_app (codes "serve"))
 
 unfoldable pub timing_app : App
-timing_app = with_rule (with_rule (with_rule (with_rule named_app (value_rule (codes "target"))) (value_rule (codes "preferred"))) (value_rule (codes "window"))) (value_rule (codes "keep"))
+timing_app = with_rule (with_rule (with_rule (with_rule (with_rule named_app (value_rule (codes "target"))) (value_rule (codes "preferred"))) (value_rule (codes "window"))) (value_rule (codes "keep"))) (value_rule (codes "live"))
 
 unfoldable pub channel_app : App
 channel_app = with_rule timing_app (value_rule (codes "epoch"))
@@ -35,10 +35,10 @@ unfoldable pub server_app : App
 server_app = with_rule (with_rule (with_rule (with_rule (with_rule (with_rule (with_rule channel_app (value_rule (codes "workers"))) (value_rule (codes "connections"))) (value_rule (codes "planners"))) (value_rule (codes "patience"))) (value_rule (codes "log"))) (value_rule (codes "run"))) (value_rule (codes "base"))
 
 unfoldable pub options_app : App
-options_app = with_rule (with_rule (with_rule (with_rule server_app (flag_rule (codes "mend"))) (value_rule (codes "snap"))) (value_rule (codes "fill"))) (value_rule (codes "wait"))
+options_app = with_rule (with_rule (with_rule (with_rule (with_rule server_app (flag_rule (codes "mend"))) (value_rule (codes "snap"))) (value_rule (codes "fill"))) (value_rule (codes "wait"))) (value_rule (codes "job-life"))
 
 unfoldable pub journal_app : App
-journal_app = with_rule (with_rule options_app (value_rule (codes "journal"))) (value_rule (codes "sync"))
+journal_app = with_rule (with_rule (with_rule (with_rule options_app (value_rule (codes "journal"))) (value_rule (codes "sync"))) (value_rule (codes "journal-lost"))) (flag_rule (codes "anew"))
 
 unfoldable pub serve_app : App
 serve_app = with_rule (with_rule journal_app (new_rule (codes "address"))) (words_rule (codes "renditions"))
@@ -50,6 +50,7 @@ texts_in found = record {
   preferred = first_value found (codes "preferred");
   window = first_value found (codes "window");
   keep = first_value found (codes "keep");
+  live = first_value found (codes "live");
   epoch = first_value found (codes "epoch");
   workers = first_value found (codes "workers");
   connections = first_value found (codes "connections");
@@ -61,6 +62,7 @@ texts_in found = record {
   snap = first_value found (codes "snap");
   fill = first_value found (codes "fill");
   wait = first_value found (codes "wait");
+  job_life = first_value found (codes "job-life");
   address = first_value found (codes "address");
   renditions = option_map raw_values (matched_of found (codes "renditions"));
 }
@@ -69,13 +71,14 @@ texts_in found = record {
 abbrev pub timing_found : Found → Result WindowSettings SettingsFault
 timing_found found =
     timing_of (first_value found (codes "target")) (first_value found (codes "preferred")) (first_value found (codes "window")) (first_value found (codes "keep"))
+    (first_value found (codes "live"))
 
 abbrev pub workers_found : Found → Result ThreadSettings SettingsFault
 workers_found found =
     workers_of (first_value found (codes "workers")) (first_value found (codes "connections")) (first_value found (codes "planners")) (first_value found (codes "patience"))
 
 abbrev pub mending_found : Found → Result (Option MendSettings) SettingsFault
-mending_found found = mending_of (first_value found (codes "mend")) (first_value found (codes "snap")) (first_value found (codes "fill"))
+mending_found found = mending_of (first_value found (codes "mend")) (first_value found (codes "snap")) (first_value found (codes "fill")) (first_value found (codes "wait"))
 
 -- the texts of the arguments
 abbrev pub texts_of : List Row → Texts
@@ -84,6 +87,7 @@ texts_of rows = record {
   preferred = first_of (codes "preferred") rows;
   window = first_of (codes "window") rows;
   keep = first_of (codes "keep") rows;
+  live = first_of (codes "live") rows;
   epoch = first_of (codes "epoch") rows;
   workers = first_of (codes "workers") rows;
   connections = first_of (codes "connections") rows;
@@ -95,6 +99,7 @@ texts_of rows = record {
   snap = first_of (codes "snap") rows;
   fill = first_of (codes "fill") rows;
   wait = first_of (codes "wait") rows;
+  job_life = first_of (codes "job-life") rows;
   address = first_of (codes "address") rows;
   renditions = all_of (codes "renditions") rows;
 }

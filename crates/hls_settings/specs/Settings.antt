@@ -1,7 +1,7 @@
 -- The settings of `serve` from its arguments, or the first invalid one.
 use Rattle.hls_mend_laws.specs.declared.settings.MendSettings.{MendSettings}
 use Rattle.hls_settings.specs.Flags.{is_set}
-use Rattle.std.specs.Prelude.{ℕ, ◌*◌, List, Option, Some, None, Bool, true, false, ◌&&◌, option_and_then, cond, codes, Result, Ok, Err}
+use Rattle.std.specs.Prelude.{ℕ, ◌*◌, List, Option, Some, None, Bool, true, false, ◌&&◌, ◌||◌, is_some, option_and_then, cond, codes, Result, Ok, Err}
 use Rattle.std.specs.Prelude.{ℤ, option_map, pos, int_le}
 use Rattle.std.specs.Borrow.{Bor}
 use Rattle.std.specs.Str.{bytes_eq}
@@ -16,7 +16,7 @@ use Rattle.hls_settings.specs.declared.server_settings.ServerSettings.{ServerSet
 use Rattle.hls_settings.specs.declared.window_settings.WindowSettings.{WindowSettings}
 use Rattle.hls_settings.specs.declared.thread_settings.ThreadSettings.{ThreadSettings}
 use Rattle.hls_settings.specs.Addresses.{address_of}
-use Rattle.hls_settings.specs.Numbers.{number_or_default}
+use Rattle.hls_settings.specs.Numbers.{number_or_default, optional_number}
 
 -- an argument, if it is given
 abbrev pub text_of : Option (Bor Text) → Option Text
@@ -32,25 +32,32 @@ three_targets target = target * 3000000
 
 -- ---- durations
 
-abbrev pub timing_with : ℕ → ℕ → ℕ → Option ℕ → Result WindowSettings SettingsFault
-timing_with target preferred window None = Err faults.Keep
-timing_with target preferred window (Some keep) = Ok (record { target = target; preferred = preferred; window = window; keep = keep })
+-- how much the live playlists by paths show: three target durations to the window, or all
+abbrev pub timing_showing : ℕ → ℕ → ℕ → ℕ → Option (Option ℕ) → Result WindowSettings SettingsFault
+timing_showing target preferred window keep None = Err faults.Live
+timing_showing target preferred window keep (Some shown) =
+    Ok (record { target = target; preferred = preferred; window = window; keep = keep; shown_us = shown })
 
-abbrev pub timing_after : ℕ → ℕ → Option ℕ → Option Text → Result WindowSettings SettingsFault
-timing_after target preferred None keep = Err faults.Window
-timing_after target preferred (Some window) keep = timing_with target preferred window (number_or_default window most_number 3600000000 keep)
+abbrev pub timing_with : ℕ → ℕ → ℕ → Option ℕ → Option Text → Result WindowSettings SettingsFault
+timing_with target preferred window None live = Err faults.Keep
+timing_with target preferred window (Some keep) live = timing_showing target preferred window keep (optional_number (three_targets target) window live)
 
-abbrev pub timing_by : ℕ → Option ℕ → Option Text → Option Text → Result WindowSettings SettingsFault
-timing_by target None window keep = Err faults.Preferred
-timing_by target (Some preferred) window keep = timing_after target preferred (number_or_default (three_targets target) most_number 30000000 window) keep
+abbrev pub timing_after : ℕ → ℕ → Option ℕ → Option Text → Option Text → Result WindowSettings SettingsFault
+timing_after target preferred None keep live = Err faults.Window
+timing_after target preferred (Some window) keep live = timing_with target preferred window (number_or_default window most_number 3600000000 keep) live
 
-abbrev pub timing_in : Option ℕ → Option Text → Option Text → Option Text → Result WindowSettings SettingsFault
-timing_in None preferred window keep = Err faults.Target
-timing_in (Some target) preferred window keep = timing_by target (number_or_default 1 (target * 1000000) 4000000 preferred) window keep
+abbrev pub timing_by : ℕ → Option ℕ → Option Text → Option Text → Option Text → Result WindowSettings SettingsFault
+timing_by target None window keep live = Err faults.Preferred
+timing_by target (Some preferred) window keep live =
+    timing_after target preferred (number_or_default (three_targets target) most_number 30000000 window) keep live
 
--- by the texts of `--target`, `--preferred`, `--window` and `--keep`
-abbrev pub timing_of : Option Text → Option Text → Option Text → Option Text → Result WindowSettings SettingsFault
-timing_of target preferred window keep = timing_in (number_or_default 1 3600 6 target) preferred window keep
+abbrev pub timing_in : Option ℕ → Option Text → Option Text → Option Text → Option Text → Result WindowSettings SettingsFault
+timing_in None preferred window keep live = Err faults.Target
+timing_in (Some target) preferred window keep live = timing_by target (number_or_default 1 (target * 1000000) 4000000 preferred) window keep live
+
+-- by the texts of `--target`, `--preferred`, `--window`, `--keep` and `--live`
+abbrev pub timing_of : Option Text → Option Text → Option Text → Option Text → Option Text → Result WindowSettings SettingsFault
+timing_of target preferred window keep live = timing_in (number_or_default 1 3600 6 target) preferred window keep live
 
 -- ---- the epoch
 
@@ -94,6 +101,7 @@ pub record Texts : Type 0 where
   pub preferred : Option Text
   pub window : Option Text
   pub keep : Option Text
+  pub live : Option Text
   pub epoch : Option Text
   pub workers : Option Text
   pub connections : Option Text
@@ -105,6 +113,7 @@ pub record Texts : Type 0 where
   pub snap : Option Text
   pub fill : Option Text
   pub wait : Option Text
+  pub job_life : Option Text
   pub address : Option Text
   pub renditions : Option (List Text)
 
@@ -123,39 +132,49 @@ run_of None = Some None
 run_of (Some text) = option_map (λ field. Some field) (run_field text)
 
 -- how far units are mended, if they are
-abbrev pub mending_with : Bool → ℕ → Option ℕ → Result (Option MendSettings) SettingsFault
-mending_with mends snap None = Err faults.Fill
-mending_with true snap (Some fill) = Ok (Some (record { snap_us = snap; fill_us = fill }))
-mending_with false snap (Some fill) = Ok None
+abbrev pub mending_with : Bool → Bool → ℕ → Option ℕ → Result (Option MendSettings) SettingsFault
+mending_with mends given snap None = Err faults.Fill
+mending_with true given snap (Some fill) = Ok (Some (record { snap_us = snap; fill_us = fill }))
+mending_with false true snap (Some fill) = Err faults.Unmended
+mending_with false false snap (Some fill) = Ok None
 
-abbrev pub mending_by : Bool → Option ℕ → Option Text → Result (Option MendSettings) SettingsFault
-mending_by mends None fill = Err faults.Snap
-mending_by mends (Some snap) fill = mending_with mends snap (number_or_default 0 3600000000 10000000 fill)
+abbrev pub mending_by : Bool → Bool → Option ℕ → Option Text → Result (Option MendSettings) SettingsFault
+mending_by mends given None fill = Err faults.Snap
+mending_by mends given (Some snap) fill = mending_with mends given snap (number_or_default 0 3600000000 10000000 fill)
 
--- by the texts of `--mend`, `--snap` and `--fill`; the numbers are in microseconds
-abbrev pub mending_of : Option Text → Option Text → Option Text → Result (Option MendSettings) SettingsFault
-mending_of mend snap fill = mending_by (is_set mend) (number_or_default 0 250000 5000 snap) fill
+-- by the texts of `--mend`, `--snap`, `--fill` and `--wait`, of which the last three need the first; the numbers are in microseconds
+abbrev pub mending_of : Option Text → Option Text → Option Text → Option Text → Result (Option MendSettings) SettingsFault
+mending_of mend snap fill wait =
+    mending_by (is_set mend) (is_some snap || (is_some fill || is_some wait)) (number_or_default 0 250000 5000 snap) fill
 
 -- for how long nothing may be heard of an encoder before its rendition is filled, in seconds
 abbrev pub wait_of : Option Text → Option ℕ
 wait_of text = number_or_default 1 3600 5 text
 
-abbrev pub server_with : WindowSettings → Option ℤ → ThreadSettings → Bool → Option (List ℕ) → Option MendSettings → ℕ → Option ListenAddress → Result ServerSettings SettingsFault
-server_with timing epoch workers logs run mending wait None = Err faults.Address
-server_with timing epoch workers logs run mending wait (Some address) =
-    Ok (record { timing = timing; epoch = epoch; workers = workers; logs_requests = logs; run = run; mending = mending; wait_s = wait; address = address })
+-- after how many seconds without a use a job is removed, if it is
+abbrev pub job_life_of : Option Text → Option (Option ℕ)
+job_life_of text = optional_number 1 86400 text
 
-abbrev pub server_waiting : WindowSettings → Option ℤ → ThreadSettings → Bool → Option (List ℕ) → Option MendSettings → Option ℕ → Option Text → Result ServerSettings SettingsFault
-server_waiting timing epoch workers logs run mending None address = Err faults.Wait
-server_waiting timing epoch workers logs run mending (Some wait) address = server_with timing epoch workers logs run mending wait (address_in address)
+abbrev pub server_with : WindowSettings → Option ℤ → ThreadSettings → Bool → Option (List ℕ) → Option MendSettings → ℕ → Option ℕ → Option ListenAddress → Result ServerSettings SettingsFault
+server_with timing epoch workers logs run mending wait life None = Err faults.Address
+server_with timing epoch workers logs run mending wait life (Some address) =
+    Ok (record { timing = timing; epoch = epoch; workers = workers; logs_requests = logs; run = run; mending = mending; wait_s = wait; job_life_s = life; address = address })
 
-abbrev pub server_mending : WindowSettings → Option ℤ → ThreadSettings → Bool → Option (List ℕ) → Result (Option MendSettings) SettingsFault → Option ℕ → Option Text → Result ServerSettings SettingsFault
-server_mending timing epoch workers logs run (Err fault) wait address = Err fault
-server_mending timing epoch workers logs run (Ok mending) wait address = server_waiting timing epoch workers logs run mending wait address
+abbrev pub server_living : WindowSettings → Option ℤ → ThreadSettings → Bool → Option (List ℕ) → Option MendSettings → ℕ → Option (Option ℕ) → Option Text → Result ServerSettings SettingsFault
+server_living timing epoch workers logs run mending wait None address = Err faults.JobLife
+server_living timing epoch workers logs run mending wait (Some life) address = server_with timing epoch workers logs run mending wait life (address_in address)
+
+abbrev pub server_waiting : WindowSettings → Option ℤ → ThreadSettings → Bool → Option (List ℕ) → Option MendSettings → Option ℕ → Texts → Result ServerSettings SettingsFault
+server_waiting timing epoch workers logs run mending None t = Err faults.Wait
+server_waiting timing epoch workers logs run mending (Some wait) t = server_living timing epoch workers logs run mending wait (job_life_of t.job_life) t.address
+
+abbrev pub server_mending : WindowSettings → Option ℤ → ThreadSettings → Bool → Option (List ℕ) → Result (Option MendSettings) SettingsFault → Texts → Result ServerSettings SettingsFault
+server_mending timing epoch workers logs run (Err fault) t = Err fault
+server_mending timing epoch workers logs run (Ok mending) t = server_waiting timing epoch workers logs run mending (wait_of t.wait) t
 
 abbrev pub server_named : WindowSettings → Option ℤ → ThreadSettings → Bool → Option (Option (List ℕ)) → Texts → Result ServerSettings SettingsFault
 server_named timing epoch workers logs None t = Err faults.Run
-server_named timing epoch workers logs (Some run) t = server_mending timing epoch workers logs run (mending_of t.mend t.snap t.fill) (wait_of t.wait) t.address
+server_named timing epoch workers logs (Some run) t = server_mending timing epoch workers logs run (mending_of t.mend t.snap t.fill t.wait) t
 
 abbrev pub server_after : WindowSettings → Option ℤ → ThreadSettings → Option Bool → Texts → Result ServerSettings SettingsFault
 server_after timing epoch workers None t = Err faults.Log
@@ -174,4 +193,4 @@ server_in (Err fault) t = Err fault
 server_in (Ok timing) t = server_from timing (epoch_in t.epoch) t
 
 abbrev pub server_settings_of : Texts → Result ServerSettings SettingsFault
-server_settings_of t = server_in (timing_of t.target t.preferred t.window t.keep) t
+server_settings_of t = server_in (timing_of t.target t.preferred t.window t.keep t.live) t

@@ -95,10 +95,10 @@ wrong_argument os free arguments = wrong_after os free [] arguments
 
 -- the options of `serve`, and those of `cut`
 abbrev pub serve_options : OptionTable
-serve_options = map (λ name. (name, true)) (codes "target" ∷ codes "preferred" ∷ codes "window" ∷ codes "keep" ∷ codes "epoch" ∷ codes "workers"
+serve_options = map (λ name. (name, true)) (codes "target" ∷ codes "preferred" ∷ codes "window" ∷ codes "keep" ∷ codes "live" ∷ codes "epoch" ∷ codes "workers"
     ∷ codes "connections" ∷ codes "planners" ∷ codes "patience" ∷ codes "log" ∷ codes "run" ∷ codes "base" ∷ [])
-    ++ (codes "mend", false) ∷ (codes "snap", true) ∷ (codes "fill", true) ∷ (codes "wait", true)
-    ∷ (codes "journal", true) ∷ (codes "sync", true) ∷ []
+    ++ (codes "mend", false) ∷ (codes "snap", true) ∷ (codes "fill", true) ∷ (codes "wait", true) ∷ (codes "job-life", true)
+    ∷ (codes "journal", true) ∷ (codes "sync", true) ∷ (codes "journal-lost", true) ∷ (codes "anew", false) ∷ []
 
 abbrev pub cut_options : OptionTable
 cut_options = (codes "each", false) ∷ (codes "preferred", true) ∷ (codes "certificate", false) ∷ (codes "target", true) ∷ (codes "uri", true)

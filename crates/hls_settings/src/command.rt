@@ -8,11 +8,12 @@ use clap::{Arg, ArgAction, Command};
 use std::alloc::{AllocError, Global};
 
 /// The options by their long names, and whether each takes a value.
-pub const OPTIONS: [(&str, bool); 18] = [
+pub const OPTIONS: [(&str, bool); 22] = [
     ("target", true),
     ("preferred", true),
     ("window", true),
     ("keep", true),
+    ("live", true),
     ("epoch", true),
     ("workers", true),
     ("connections", true),
@@ -25,8 +26,11 @@ pub const OPTIONS: [(&str, bool); 18] = [
     ("snap", true),
     ("fill", true),
     ("wait", true),
+    ("job-life", true),
     ("journal", true),
     ("sync", true),
+    ("journal-lost", true),
+    ("anew", false),
 ];
 
 /// Builds an option by its long name, with or without a value.

@@ -16,6 +16,8 @@ pub enum SettingsFault {
     Window,
     /// `--keep` is shorter than the window.
     Keep,
+    /// `--live` is shorter than three target durations, or longer than the window.
+    Live,
     /// `--epoch` isn't an instant from 1970 to 9000-01-01T00:00:00Z.
     Epoch,
     /// `--workers` isn't 1 to 63.
@@ -34,8 +36,12 @@ pub enum SettingsFault {
     Snap,
     /// `--fill` isn't 0 to 3600000000 microseconds.
     Fill,
+    /// `--snap`, `--fill` or `--wait` is given without `--mend`.
+    Unmended,
     /// `--wait` isn't 1 to 3600 seconds.
     Wait,
+    /// `--job-life` isn't 1 to 86400 seconds.
+    JobLife,
     /// The address isn't `a.b.c.d:port` in decimal.
     Address,
     /// The index of the first rendition that isn't `name:kind:bandwidth:tolerance`, is outside its limits, or has the name of an

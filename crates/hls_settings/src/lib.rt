@@ -24,7 +24,9 @@ pub use cut_options::{CutOptions, read_options};
 pub use cut_options_fault::CutOptionsFault;
 pub use fault::SettingsFault;
 pub use file_arguments::{find_base_argument, find_journal_argument};
-pub use journal_settings::{SyncFault, SyncSetting, read_sync_setting};
+pub use journal_settings::{
+    JournalOption, JournalSettings, JournalSettingsFault, SyncSetting, read_journal_settings,
+};
 pub use listen_address::{ListenAddress, read_address};
 pub use printable_argument::PrintableArgument;
 pub use server_settings::ServerSettings;

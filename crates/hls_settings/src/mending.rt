@@ -9,13 +9,14 @@ use crate::number::number_or_default;
 use hls_core_laws::rendition::Rendition;
 use hls_mend_laws::settings::MendSettings;
 
-/// Reads whether units are mended, and how far, with the defaults.
+/// Reads whether units are mended, and how far, with the defaults. If they aren't, none of the other options may be given.
 pub fn read_mending(
     mend: Option<&str>,
     snap: Option<&str>,
     fill: Option<&str>,
+    wait: Option<&str>,
 ) -> Result<Option<MendSettings>, SettingsFault>
-    ensures { result ≡ mending_of (text_of mend.entry) (text_of snap.entry) (text_of fill.entry) }
+    ensures { result ≡ mending_of (text_of mend.entry) (text_of snap.entry) (text_of fill.entry) (text_of wait.entry) }
 {
     let Some(snap_us) = number_or_default(0, 250_000, 5000, snap) else {
         return Err(SettingsFault::Snap);
@@ -24,7 +25,11 @@ pub fn read_mending(
         return Err(SettingsFault::Fill);
     };
     if !is_set(mend) {
-        return Ok(None);
+        return if snap.is_some() || fill.is_some() || wait.is_some() {
+            Err(SettingsFault::Unmended)
+        } else {
+            Ok(None)
+        };
     }
     Ok(Some(MendSettings {
         snap_us: snap_us as u32,

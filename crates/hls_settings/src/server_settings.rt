@@ -2,13 +2,14 @@
 ghost use Rattle.std.specs.Prelude.{◌≡◌, IfOk, Some};
 ghost use Rattle.hls_core_laws.specs.Config.{IsEpoch, IsTarget, IsPreferred};
 ghost use Rattle.clap.specs.Words.{found_of};
-ghost use Rattle.hls_settings.specs.Settings.{address_in, log_of, run_of, server_from, server_settings_of, text_of};
+ghost use Rattle.hls_settings.specs.Settings.{address_in, job_life_of, log_of, run_of, server_from, server_settings_of, text_of};
 ghost use Rattle.hls_settings.specs.Command.{mending_found, texts_in, timing_found, workers_found};
 
 use crate::epoch::read_epoch;
 use crate::fault::SettingsFault;
 use crate::listen_address::{ListenAddress, read_address};
 use crate::mending::{read_mending, read_wait};
+use crate::number::optional_number;
 use crate::thread_settings::{ThreadSettings, read_thread_settings};
 use crate::window_settings::{WindowSettings, read_window_settings};
 use clap::ArgMatches;
@@ -30,6 +31,8 @@ pub struct ServerSettings {
     pub mending: Option<MendSettings>,
     /// For how long nothing may be heard of an encoder before its rendition is filled, in seconds. It matters only where units are mended.
     pub wait_s: u32,
+    /// After how many seconds without a use a finished job is removed, if it is.
+    pub job_life_s: Option<u64>,
     pub address: ListenAddress,
 }
 
@@ -53,6 +56,13 @@ fn read_run(text: Option<&str>) -> Option<Option<[u8; 16]>>
     }
 }
 
+/// Returns after how many seconds without a use a job is removed, if it is; `None` if the text isn't 1 to 86400.
+fn read_job_life(text: Option<&str>) -> Option<Option<u64>>
+    ensures { result ≡ job_life_of (text_of text.entry) }
+{
+    optional_number(1, 86400, text)
+}
+
 fn read_listen_address(text: Option<&str>) -> Option<ListenAddress>
     ensures { result ≡ address_in (text_of text.entry) }
 {
@@ -69,6 +79,7 @@ fn find_window_settings(matches: &ArgMatches) -> Result<WindowSettings, Settings
         matches.get_str("preferred"),
         matches.get_str("window"),
         matches.get_str("keep"),
+        matches.get_str("live"),
     )
 }
 
@@ -92,6 +103,7 @@ fn find_mending(matches: &ArgMatches) -> Result<Option<MendSettings>, SettingsFa
         matches.get_str("mend"),
         matches.get_str("snap"),
         matches.get_str("fill"),
+        matches.get_str("wait"),
     )
 }
 
@@ -115,6 +127,9 @@ fn build_server_settings(
     let Some(wait_s) = read_wait(matches.get_str("wait")) else {
         return Err(SettingsFault::Wait);
     };
+    let Some(job_life_s) = read_job_life(matches.get_str("job-life")) else {
+        return Err(SettingsFault::JobLife);
+    };
     let Some(address) = read_listen_address(matches.get_str("address")) else {
         return Err(SettingsFault::Address);
     };
@@ -126,6 +141,7 @@ fn build_server_settings(
         run,
         mending,
         wait_s,
+        job_life_s,
         address,
     })
 }

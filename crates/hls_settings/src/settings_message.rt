@@ -91,6 +91,9 @@ impl<'a, S: AsStr> Display for SettingsMessage<'a, SettingsFault, S> {
             SettingsFault::Keep => {
                 "--keep takes the window or more, in microseconds (3600000000 if not given)"
             }
+            SettingsFault::Live => {
+                "--live takes three targets to the window, in microseconds (the window if not given)"
+            }
             SettingsFault::Epoch => EPOCH,
             SettingsFault::Workers => "--workers takes 1 to 63",
             SettingsFault::Connections => "--connections takes 16 to 1000000",
@@ -102,7 +105,9 @@ impl<'a, S: AsStr> Display for SettingsMessage<'a, SettingsFault, S> {
             SettingsFault::Fill => {
                 "--fill takes 0 to 3600000000 microseconds (10000000 if not given)"
             }
+            SettingsFault::Unmended => "--snap, --fill and --wait need --mend",
             SettingsFault::Wait => "--wait takes 1 to 3600 whole seconds (5 if not given)",
+            SettingsFault::JobLife => "--job-life takes 1 to 86400 whole seconds",
             SettingsFault::Address => {
                 "give an address a.b.c.d:port before the renditions, as in 127.0.0.1:8080, without leading zeros"
             }

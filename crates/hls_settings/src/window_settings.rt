@@ -4,7 +4,7 @@ ghost use Rattle.hls_core_laws.specs.Config.{IsTarget, IsPreferred};
 ghost use Rattle.hls_settings.specs.Settings.{text_of, timing_of};
 
 use crate::fault::SettingsFault;
-use crate::number::number_or_default;
+use crate::number::{number_or_default, optional_number};
 
 /// The greatest number of 16 digits.
 const MOST_NUMBER: u64 = 9_999_999_999_999_999;
@@ -20,6 +20,9 @@ pub struct WindowSettings {
     pub window: u64,
     /// The duration that is kept for catch-up, in microseconds: at least the window.
     pub keep: u64,
+    /// How much the live playlists by paths show, in microseconds, at least three target durations and at most the window; `None` if
+    /// they show all that the live line keeps.
+    pub shown_us: Option<u64>,
 }
 
 /// Reads the given durations, with their defaults.
@@ -28,9 +31,10 @@ pub fn read_window_settings(
     preferred: Option<&str>,
     window: Option<&str>,
     keep: Option<&str>,
+    live: Option<&str>,
 ) -> Result<WindowSettings, SettingsFault>
     ensures valid { IfOk result (λ t. IsTarget t.target × IsPreferred t.target t.preferred) }
-    ensures value { result ≡ timing_of (text_of target.entry) (text_of preferred.entry) (text_of window.entry) (text_of keep.entry) }
+    ensures value { result ≡ timing_of (text_of target.entry) (text_of preferred.entry) (text_of window.entry) (text_of keep.entry) (text_of live.entry) }
 {
     let Some(target) = number_or_default(1, 3600, 6, target) else {
         return Err(SettingsFault::Target);
@@ -44,10 +48,14 @@ pub fn read_window_settings(
     let Some(keep) = number_or_default(window, MOST_NUMBER, 3_600_000_000, keep) else {
         return Err(SettingsFault::Keep);
     };
+    let Some(shown_us) = optional_number(target * 3_000_000, window, live) else {
+        return Err(SettingsFault::Live);
+    };
     Ok(WindowSettings {
         target,
         preferred,
         window,
         keep,
+        shown_us,
     })
 }

@@ -72,7 +72,7 @@ fn takes_value(options: &[(&str, bool)], option: &str) -> Option<bool>
 }
 
 /// Whether one of the arguments gives the option.
-fn is_given<S: AsStr>(arguments: &[S], option: &str) -> bool
+pub(crate) fn is_given<S: AsStr>(arguments: &[S], option: &str) -> bool
     ensures { result ≡ is_given (map S.text arguments.now) option.now }
 {
     for argument in arguments {

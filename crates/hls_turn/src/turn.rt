@@ -2,7 +2,9 @@
 
 ghost use Rattle.std.specs.Prelude.{◌≡◌, ◌<◌, ◌≤◌, true, All, IfOk, length, map, take, Some};
 ghost use Rattle.std.specs.List.{AllZip};
-ghost use Rattle.hls_core_laws.specs.Moves.{IsFittingAsSeen};
+ghost use Rattle.hls_core_laws.specs.Moves.{IsFitting, IsFittingAsSeen};
+ghost use Rattle.hls_core_laws.specs.declared.done.Done.TheVariants.{Repeat};
+ghost use Rattle.hls_core.specs.StepResult.{Applies};
 ghost use Rattle.hls_core_laws.specs.PassView.{MaySeeLater, Looks, Submits};
 ghost use Rattle.hls_turn.specs.Calls.{opening_passes, HasLooked, LooksAt, MeetsAt, SettledAt, last_seen};
 
@@ -11,12 +13,14 @@ use crate::state_queue::{StateQueue, put_state, take_state};
 use crate::view::PassSplit;
 use hls_core::follows::follows;
 use hls_core::snapshot::Snapshot;
-use hls_core::step::apply;
+use hls_core::step::{apply, step};
+use hls_core::stepped::Stepped;
 use hls_core_laws::done::Done;
 use hls_core_laws::event::Event;
 use hls_core_laws::refusal::Refusal;
 use std::alloc::{AllocError, Global};
 use std::marker::Model;
+use std::sync::atomic::{AtomicBool, Ordering};
 use std::sync::{Arc, Condvar, Mutex, Wait};
 use std::thread;
 
@@ -28,6 +32,8 @@ pub struct Turn {
     queue: StateQueue,
     notified: Mutex<bool>,
     changed: Condvar,
+    /// Whether encoders' events are refused.
+    is_refusing: AtomicBool,
 }
 
 impl Model for Turn {
@@ -83,6 +89,7 @@ impl Turn {
             queue,
             notified: Mutex::new(false),
             changed: Condvar::new(),
+            is_refusing: AtomicBool::new(false),
         };
         Ok((turn, passes))
     }
@@ -105,12 +112,35 @@ impl Turn {
     {
         let is_unit = matches!(&event, Event::Accept { .. });
         let mut state = take_state(rt, &self.queue, &mut pass.queue_pass);
-        let result = apply(&mut state, alloc, pass.number, event);
+        let result = self.apply(&mut state, alloc, pass.number, event);
         put_state(rt, &self.queue, &mut pass.queue_pass, state);
         if is_unit && matches!(result, Ok(Done::New { .. })) {
             self.tell(rt);
         }
         result
+    }
+
+    /// Has the events of encoders refused from now on, as if memory ran out: each that would be new is answered by `Memory`. Slides and
+    /// trims aren't refused.
+    pub fn refuse_encoders(&self) {
+        self.is_refusing.store(true, Ordering::SeqCst);
+    }
+
+    /// Applies an event, unless it is refused.
+    fn apply(
+        &self,
+        snapshot: &mut Arc<Snapshot>,
+        alloc: Global,
+        by: u16,
+        event: Event,
+    ) -> Result<Done, Refusal>
+        requires { IsFitting snapshot.old.value event }
+        ensures { Applies snapshot.old.value by event snapshot.new.value result }
+    {
+        if self.is_refusing.load(Ordering::SeqCst) && is_of_encoder(&event) {
+            return refuse_new(snapshot, alloc, by, event);
+        }
+        apply(snapshot, alloc, by, event)
     }
 
     /// Returns the current state, which the pass has then seen. May wait.
@@ -193,6 +223,26 @@ impl Turn {
             .changed
             .wait_while(rt, self.notified.lock(rt), |notified| !*notified);
         *notified = false;
+    }
+}
+
+/// Whether an encoder submits such an event.
+fn is_of_encoder(event: &Event) -> bool {
+    matches!(
+        event,
+        Event::Begin { .. } | Event::Accept { .. } | Event::Finish { .. }
+    )
+}
+
+/// Returns the answer to an event that isn't applied: `Memory` if it would be new.
+fn refuse_new(snapshot: &Snapshot, alloc: Global, by: u16, event: Event) -> Result<Done, Refusal>
+    requires { IsFitting snapshot.now event }
+    ensures answer { Applies snapshot.now by event snapshot.now result }
+    ensures never_new { IfOk result (λ done. done ≡ Repeat) }
+{
+    match step(snapshot, alloc, by, event)? {
+        Stepped::New(_) => Err(Refusal::Memory),
+        Stepped::Repeat => Ok(Done::Repeat),
     }
 }
 
