@@ -8,4 +8,11 @@ pub mod RenewalFits
 pub mod CutCounts
 pub mod LineCuts
 pub mod AllNew
+pub mod EventRuns
 pub mod RenewedLanes
+pub mod RenewedBytes
+pub mod EndedLines
+pub mod RenewedSources
+pub mod RenewedRemovals
+pub mod EqualLists
+pub mod NeverBack

@@ -36,13 +36,13 @@ same_init a r i j x y =
     let inits : Some i ≡ Some j = sym x.begun ∙ ap (λ (l : Lane). l.init) same ∙ y.begun in
     cc
 
--- an event with the init section of a state's rendition, or with a unit that fits it
+-- an event with the init section of a state's rendition, or with a unit that fits it; no trim
 abbrev pub IsOf : State → Event → Type 0
 IsOf a (Begin r init bytes) = HasInit a r init × IsInit bytes init
 IsOf a (Accept r f bytes) = (init : InitData) × HasInit a r init × IsUnit init bytes f
 IsOf a (Finish r) = Unit {0}
 IsOf a (Slide count) = Unit {0}
-IsOf a (Trim r floor) = Unit {0}
+IsOf a (Trim r floor) = ⊥
 
 -- whatever has begun in a channel has a state's init section
 abbrev pub HasInitsOf : State → Channel → Type 0
@@ -196,8 +196,11 @@ slide_of : (a : State) (n : ℕ) → AreOf a (slide_by n)
 slide_of a zero = tt
 slide_of a (suc n) = (tt, tt)
 
+pub renewal_of : (a : State) (cut : LineCut) → IsState a → AreOf a (renewal_events a cut)
+renewal_of a cut state =
+    of_append a (renditions_from a 0 (cut.place).spots) (slide_by ((line a).removed - cut.segments)) (renditions_of a 0 (cut.place).spots state) (slide_of a ((line a).removed - cut.segments))
+
 pub renewal_fits : (a : State) (cut : LineCut) (events : List (ℕ × Event)) (config : ConfigData) → IsState a → events ≡ renewal_events a cut → AreFitting (first_state config) events
 renewal_fits a cut events config state are =
     subst (λ (es : List (ℕ × Event)). AreFitting (first_state config) es) (sym are)
-    (all_fit a (first_state config) (renewal_events a cut) (no_inits a config)
-    (of_append a (renditions_from a 0 (cut.place).spots) (slide_by ((line a).removed - cut.segments)) (renditions_of a 0 (cut.place).spots state) (slide_of a ((line a).removed - cut.segments))))
+    (all_fit a (first_state config) (renewal_events a cut) (no_inits a config) (renewal_of a cut state))

@@ -33,14 +33,11 @@ use Rattle.hls_renewal.specs.Renewals.{AreNew}
 use Rattle.hls_renewal.specs.declared.line_cut.LineCut.{LineCut}
 use Rattle.hls_renewal.specs.Cuts.{IsLineCut}
 use Rattle.hls_renewal.specs.Renewals.{with_unit, units_from, media_from, end_of, rendition_from, renditions_from, slide_by, renewal_events, renewal_start, Renews}
+use Rattle.hls_renewal.proofs.EventRuns.{IgnoresOthers, chosen, renewal_run, run, run_append, set_chosen}
 use Rattle.hls_renewal.proofs.Recorded.{of_lane}
 use Rattle.hls_renewal.proofs.LineCuts.{is_line_cut}
 
 -- ---- one lane at a time
-
-abbrev chosen : Bool → Lane → Lane → Lane
-chosen true new old = new
-chosen false new old = old
 
 -- the effect of an event on rendition r
 abbrev lane_after : ℕ → Event → Lane → Lane
@@ -50,39 +47,18 @@ lane_after r (Finish q) l = chosen (r == q) (with_finish l) l
 lane_after r (Slide count) l = l
 lane_after r (Trim q floor) l = chosen (r == q) (with_floor floor l) l
 
+ignores : IgnoresOthers lane_after
+ignores r (Begin q init bytes) l differ = ap (λ (b : Bool). chosen b (with_begin init (length bytes) l) l) differ
+ignores r (Accept q f bytes) l differ = ap (λ (b : Bool). chosen b (with_facts f l) l) differ
+ignores r (Finish q) l differ = ap (λ (b : Bool). chosen b (with_finish l) l) differ
+ignores r (Slide count) l differ = refl
+ignores r (Trim q floor) l differ = ap (λ (b : Bool). chosen b (with_floor floor l) l) differ
+
 abbrev lane_run : ℕ → List (ℕ × Event) → Lane → Lane
-lane_run r [] l = l
-lane_run r (e ∷ es) l = lane_run r es (lane_after r e.1 l)
-
-bool_cases : (b : Bool) → (b ≡ true) ⊎ (b ≡ false)
-bool_cases true = inl refl
-bool_cases false = inr refl
-
-set_at_or : {A : Type 0} (xs : List A) (r : ℕ) (x y : A) → slice_get xs r ≡ Some x → slice_get (slice_set xs r y) r ≡ Some y
-set_at_or [] r x y at = absurd (cc)
-set_at_or (z ∷ xs) zero x y at = refl
-set_at_or (z ∷ xs) (suc r) x y at = set_at_or xs r x y at
-
-set_else : {A : Type 0} (xs : List A) (q : ℕ) (y : A) (r : ℕ) → r ≢ q → slice_get (slice_set xs q y) r ≡ slice_get xs r
-set_else [] q y r differ = refl
-set_else (z ∷ xs) zero y zero differ = absurd (differ refl)
-set_else (z ∷ xs) zero y (suc r) differ = refl
-set_else (z ∷ xs) (suc q) y zero differ = refl
-set_else (z ∷ xs) (suc q) y (suc r) differ = set_else xs q y r (λ h. differ (ap suc h))
+lane_run r es l = run lane_after r es l
 
 one_set : (ch : Channel) (r q : ℕ) (l : Lane) (f : Lane → Lane) → slice_get ch.lanes r ≡ Some l → slice_get (with_lane ch q (f (lane ch q))).lanes r ≡ Some (chosen (r == q) (f l) l)
-one_set ch r q l f at = elim (bool_cases (r == q)) [
-  | inl here ↦
-      let same : r ≡ q = eqb-true r q here in
-      let is : lane ch q ≡ l = at_or ch.lanes q no_lane l (ap (λ k. slice_get ch.lanes k) (sym same) ∙ at) in
-      ap (λ k. slice_get (with_lane ch q (f (lane ch q))).lanes k) same
-      ∙ set_at_or ch.lanes q l (f (lane ch q)) (ap (λ k. slice_get ch.lanes k) (sym same) ∙ at)
-      ∙ ap (λ (x : Lane). Some (f x)) is
-      ∙ ap (λ (b : Bool). Some (chosen b (f l) l)) (sym here)
-  | inr other ↦
-      let differ : r ≢ q = λ h. let yes = eq-eqb r q h in absurd (cc) in
-      set_else ch.lanes q (f (lane ch q)) r differ ∙ at ∙ ap (λ (b : Bool). Some (chosen b (f l) l)) (sym other)
-]
+one_set ch r q l f at = set_chosen ch.lanes no_lane r q l f at
 
 after_one : (ch : Channel) (e : Event) (r : ℕ) (l : Lane) → slice_get ch.lanes r ≡ Some l → slice_get (channel_after (logged_event e) ch).lanes r ≡ Some (lane_after r e l)
 after_one ch (Begin q init bytes) r l at = one_set ch r q l (with_begin init (length bytes)) at
@@ -110,80 +86,6 @@ pub config_after_all : (s : State) (es : List (ℕ × Event)) → (replayed_stat
 config_after_all s [] = refl
 config_after_all s (e ∷ es) = config_after_all (next_state s e.0 e.1) es ∙ config_by s e.0 e.1 (outcome_of s e.1)
 
--- ---- the events of a renewal
-
-run_append : (r : ℕ) (xs ys : List (ℕ × Event)) (l : Lane) → lane_run r (xs ++ ys) l ≡ lane_run r ys (lane_run r xs l)
-run_append r [] ys l = refl
-run_append r (e ∷ xs) ys l = run_append r xs ys (lane_after r e.1 l)
-
--- those of another rendition leave it
-apart_unit : (r q : ℕ) (f : Option Facts) (unit : Option (List ℕ)) (more : List (ℕ × Event)) (l : Lane) → (r == q) ≡ false → ((l : Lane) → lane_run r more l ≡ l) → lane_run r (with_unit q f unit more) l ≡ l
-apart_unit r q None unit more l differ rest = refl
-apart_unit r q (Some f) None more l differ rest = refl
-apart_unit r q (Some f) (Some unit) more l differ rest = ap (λ (b : Bool). lane_run r more (chosen b (with_facts f l) l)) differ ∙ rest l
-
-apart_units : (r q : ℕ) (rec : RecordingData) (n count : ℕ) (l : Lane) → (r == q) ≡ false → lane_run r (units_from q rec n count) l ≡ l
-apart_units r q rec n zero l differ = refl
-apart_units r q rec n (suc count) l differ =
-    apart_unit r q (slice_get rec.facts n) (unit_at rec n) (units_from q rec (suc n) count) l differ (λ x. apart_units r q rec (suc n) count x differ)
-
-apart_media : (r q n : ℕ) (rec : Option RecordingData) (l : Lane) → (r == q) ≡ false → lane_run r (media_from q rec n) l ≡ l
-apart_media r q n None l differ = refl
-apart_media r q n (Some rec) l differ =
-    ap (λ (b : Bool). lane_run r (units_from q rec n (length rec.facts - n)) (chosen b (with_begin rec.init (length rec.head) l) l)) differ ∙ apart_units r q rec n (length rec.facts - n) l differ
-
-apart_end : (r q : ℕ) (finished : Option Bool) (l : Lane) → (r == q) ≡ false → lane_run r (end_of q finished) l ≡ l
-apart_end r q None l differ = refl
-apart_end r q (Some true) l differ = ap (λ (b : Bool). chosen b (with_finish l) l) differ
-apart_end r q (Some false) l differ = refl
-
-apart : (a : State) (r q n : ℕ) (l : Lane) → (r == q) ≡ false → lane_run r (rendition_from a q n) l ≡ l
-apart a r q n l differ =
-    run_append r (media_from q (recording_of a q) n) (end_of q (finished_at a q)) l
-    ∙ ap (λ x. lane_run r (end_of q (finished_at a q)) x) (apart_media r q n (recording_of a q) l differ)
-    ∙ apart_end r q (finished_at a q) l differ
-
-not_equal : (r q : ℕ) → r < q → (r == q) ≡ false
-not_equal r q less = elim (bool_cases (r == q)) [
-  | inl same ↦ absurd (omega (arith, less, eqb-true r q same))
-  | inr differ ↦ differ
-]
-
-not_equal_up : (r q : ℕ) → q < r → (r == q) ≡ false
-not_equal_up r q less = elim (bool_cases (r == q)) [
-  | inl same ↦ absurd (omega (arith, less, eqb-true r q same))
-  | inr differ ↦ differ
-]
-
--- those of later renditions too
-later_apart : (a : State) (r q : ℕ) (spots : List Spot) (l : Lane) → r < q → lane_run r (renditions_from a q spots) l ≡ l
-later_apart a r q [] l less = refl
-later_apart a r q (spot ∷ spots) l less =
-    run_append r (rendition_from a q spot.fragment) (renditions_from a (suc q) spots) l
-    ∙ ap (λ x. lane_run r (renditions_from a (suc q) spots) x) (apart a r q spot.fragment l (not_equal r q less))
-    ∙ later_apart a r (suc q) spots l (omega (arith, less))
-
--- so what counts are its own
-own_events : (a : State) (r k q : ℕ) (spots : List Spot) (spot : Spot) (l : Lane) → r ≡ q + k → slice_get spots k ≡ Some spot
-    → lane_run r (renditions_from a q spots) l ≡ lane_run r (rendition_from a r spot.fragment) l
-own_events a r k q [] spot l is at = absurd (cc)
-own_events a r zero q (x ∷ spots) spot l is at =
-    let same : x ≡ spot = cc in
-    let number : q ≡ r = omega (arith, is) in
-    run_append r (rendition_from a q x.fragment) (renditions_from a (suc q) spots) l
-    ∙ later_apart a r (suc q) spots (lane_run r (rendition_from a q x.fragment) l) (omega (arith, is))
-    ∙ ap (λ (y : Spot). lane_run r (rendition_from a q y.fragment) l) same
-    ∙ ap (λ j. lane_run r (rendition_from a j spot.fragment) l) number
-own_events a r (suc k) q (x ∷ spots) spot l is at =
-    run_append r (rendition_from a q x.fragment) (renditions_from a (suc q) spots) l
-    ∙ ap (λ y. lane_run r (renditions_from a (suc q) spots) y) (apart a r q x.fragment l (not_equal_up r q (omega (arith, is))))
-    ∙ own_events a r k (suc q) spots spot l (omega (arith, is)) at
-
--- a slide leaves it
-slide_apart : (r n : ℕ) (l : Lane) → lane_run r (slide_by n) l ≡ l
-slide_apart r zero l = refl
-slide_apart r (suc n) l = refl
-
 -- ---- its own events
 
 abbrev with_more : List Facts → Lane → Lane
@@ -198,7 +100,7 @@ one_more f fs l = let same = append_assoc l.facts (f ∷ []) fs in
     λ k. record { init = l.init; size = l.size; facts = same k; floor = l.floor; finished = l.finished }
 
 -- all units from a number on are kept
-abbrev AreKeptFrom : RecordingData → ℕ → Type 0
+abbrev pub AreKeptFrom : RecordingData → ℕ → Type 0
 AreKeptFrom rec n = (k : ℕ) → n ≤ k → k < length rec.facts → (unit : List ℕ) × (unit_at rec k ≡ Some unit)
 
 own_units : (r : ℕ) (rec : RecordingData) (n count : ℕ) (l : Lane) → (r == r) ≡ true → AreKeptFrom rec n → n + count ≡ length rec.facts
@@ -236,96 +138,122 @@ own_media : (r n : ℕ) (rec : RecordingData) (finished : Bool) → AreKeptFrom 
 own_media r n rec finished kept few =
     let same : (r == r) ≡ true = eq-eqb r r refl in
     let all : n + (length rec.facts - n) ≡ length rec.facts = omega (arith, few) in
-    run_append r (media_from r (Some rec) n) (end_of r (Some finished)) no_lane
+    run_append lane_after r (media_from r (Some rec) n) (end_of r (Some finished)) no_lane
     ∙ own_end r finished (lane_run r (media_from r (Some rec) n) no_lane) same
     ∙ ap (λ (b : Bool). ended finished (lane_run r (units_from r rec n (length rec.facts - n)) (chosen b (with_begin rec.init (length rec.head) no_lane) no_lane))) same
     ∙ ap (λ l. ended finished l) (own_units r rec n (length rec.facts - n) (with_begin rec.init (length rec.head) no_lane) same kept all)
 
--- such a lane begins as the old one from its cut on
+-- a rendition of the renewed channel is the old one from unit n on
+pub record IsLaneFrom (n : ℕ) (l m : Lane) : Type 0 where
+  pub init : m.init ≡ l.init
+  pub size : m.size ≡ l.size
+  pub facts : m.facts ≡ drop n l.facts
+  pub floor : m.floor ≡ 0
+  pub finished : m.finished ≡ l.finished
+
 begins_again : (l : Lane) (rec : RecordingData) (n : ℕ) (finished : Bool) → l.init ≡ Some rec.init → rec.facts ≡ l.facts → l.size ≡ length rec.head → l.finished ≡ finished
-    → LaneBegins (lane_from n l) (renewed_lane rec n finished)
-begins_again l rec n true init facts size over = record {
-  init = sym init;
-  size = sym size;
+    → IsLaneFrom n l (renewed_lane rec n finished)
+begins_again l rec n true init facts size over = record { init = sym init; size = sym size; facts = ap (λ fs. drop n fs) facts; floor = refl; finished = sym over }
+begins_again l rec n false init facts size over = record { init = sym init; size = sym size; facts = ap (λ fs. drop n fs) facts; floor = refl; finished = sym over }
+
+-- so it begins as the old one from its cut on
+begins_from : (n : ℕ) (l m : Lane) → IsLaneFrom n l m → LaneBegins (lane_from n l) m
+begins_from n l m is = record {
+  init = is.init;
+  size = is.size;
   more = [];
-  facts = ap (λ fs. drop n fs) facts ∙ sym (append-nil (drop n l.facts));
-  over = λ h. (refl, refl);
-}
-begins_again l rec n false init facts size over = record {
-  init = sym init;
-  size = sym size;
-  more = [];
-  facts = ap (λ fs. drop n fs) facts ∙ sym (append-nil (drop n l.facts));
-  over = λ h. absurd (cc);
+  facts = is.facts ∙ sym (append-nil (drop n l.facts));
+  over = λ h. (is.finished ∙ h, refl);
 }
 
 -- ---- the renewed channel
 
 -- each unit from the floor on is kept
-kept_units : (floor n : ℕ) (rec : RecordingData) → rec.floor ≡ floor → rec.floor + length rec.units ≡ length rec.facts → floor ≤ n → AreKeptFrom rec n
+pub kept_units : (floor n : ℕ) (rec : RecordingData) → rec.floor ≡ floor → rec.floor + length rec.units ≡ length rec.facts → floor ≤ n → AreKeptFrom rec n
 kept_units floor n rec is whole low k from within =
     let above : rec.floor ≤ k = omega (arith, is, low, from) in
     let there = some_at rec.units (k - rec.floor) (omega (arith, above, whole, within)) in
     (there.0, ap (λ (b : Bool). cond b None (slice_get rec.units (k - rec.floor))) (le-ltb k rec.floor above) ∙ there.1)
 
-some_same : {A : Type 0} (x y : A) → Some x ≡ Some y → x ≡ y
+pub some_same : {A : Type 0} (x y : A) → Some x ≡ Some y → x ≡ y
 some_same x y same = cc
 
 -- a rendition from a cut on: what was recorded, by whether it has begun
-record IsCutHere (a : State) (r n : ℕ) (l : Lane) : Type 0 where
-  at : slice_get (channel a).lanes r ≡ Some l
-  low : l.floor ≤ n
-  high : n ≤ length l.facts
+pub record IsCutHere (a : State) (r n : ℕ) (l : Lane) : Type 0 where
+  pub at : slice_get (channel a).lanes r ≡ Some l
+  pub low : l.floor ≤ n
+  pub high : n ≤ length l.facts
 
-begun_lane : (a : State) (r n : ℕ) (l : Lane) (rec : RecordingData) → IsState a → IsCutHere a r n l → recording_of a r ≡ Some rec
-    → LaneBegins (lane_from n l) (lane_run r (media_from r (Some rec) n ++ end_of r (Some l.finished)) no_lane)
-begun_lane a r n l rec state here found =
+-- a recording has all that is kept of its rendition
+pub record IsWholeOf (a : State) (r : ℕ) (l : Lane) (rec : RecordingData) : Type 0 where
+  pub init : l.init ≡ Some rec.init
+  pub size : l.size ≡ length rec.head
+  pub facts : rec.facts ≡ l.facts
+  pub floor : rec.floor ≡ l.floor
+  pub units : rec.units ≡ (held_bytes a r).units
+  pub count : rec.floor + length rec.units ≡ length rec.facts
+
+pub whole_of : (a : State) (r : ℕ) (l : Lane) (rec : RecordingData) → IsState a → slice_get (channel a).lanes r ≡ Some l → recording_of a r ≡ Some rec → IsWholeOf a r l rec
+whole_of a r l rec state at found =
     let of = of_lane a r rec found in
-    let same : of.its ≡ l = some_same of.its l (sym of.at ∙ here.at) in
-    let beside = at_beside (channel a).lanes a.bytes r l state.counts_agree here.at in
+    let same : of.its ≡ l = some_same of.its l (sym of.at ∙ at) in
+    let beside = at_beside (channel a).lanes a.bytes r l state.counts_agree at in
     let held_is : held_bytes a r ≡ beside.0 = at_or a.bytes r no_bytes beside.0 beside.1 in
-    let matches : MatchesBytes l beside.0 = state.fits r l beside.0 here.at beside.1 in
+    let matches : MatchesBytes l beside.0 = state.fits r l beside.0 at beside.1 in
     let init : l.init ≡ Some rec.init = ap (λ (x : Lane). x.init) (sym same) ∙ of.begun in
     let parts : record { init = rec.init; head = (held_bytes a r).head; facts = l.facts; floor = l.floor; units = (held_bytes a r).units } ≡ rec =
-    some_same _ _ (ap (λ (i : Option InitData). recorded_from i l (held_bytes a r)) (sym init) ∙ ap (λ (o : Option Lane). recorded_at o (held_bytes a r)) (sym here.at) ∙ found) in
+    some_same _ _ (ap (λ (i : Option InitData). recorded_from i l (held_bytes a r)) (sym init) ∙ ap (λ (o : Option Lane). recorded_at o (held_bytes a r)) (sym at) ∙ found) in
     let facts : rec.facts ≡ l.facts = ap (λ (x : RecordingData). x.facts) (sym parts) in
     let floor : rec.floor ≡ l.floor = ap (λ (x : RecordingData). x.floor) (sym parts) in
     let units : length rec.units ≡ length (beside.0).units = ap (λ (x : RecordingData). length x.units) (sym parts) ∙ ap (λ (h : HeldBytes). length h.units) held_is in
-    let size : l.size ≡ length rec.head = matches.size ∙ ap (λ (h : HeldBytes). length h.head) (sym held_is) ∙ ap (λ (x : RecordingData). length x.head) parts in
     let long : length rec.facts ≡ length l.facts = ap length facts in
-    let kept = kept_units l.floor n rec floor (omega (arith, floor, units, long, matches.kept)) here.low in
-    subst (λ (m : Lane). LaneBegins (lane_from n l) m) (sym (own_media r n rec l.finished kept (omega (arith, long, here.high))))
-    (begins_again l rec n l.finished init facts size refl)
+    record {
+      init = init;
+      size = matches.size ∙ ap (λ (h : HeldBytes). length h.head) (sym held_is) ∙ ap (λ (x : RecordingData). length x.head) parts;
+      facts = facts;
+      floor = floor;
+      units = ap (λ (x : RecordingData). x.units) (sym parts);
+      count = omega (arith, floor, units, long, matches.kept);
+    }
+
+begun_lane : (a : State) (r n : ℕ) (l : Lane) (rec : RecordingData) → IsState a → IsCutHere a r n l → recording_of a r ≡ Some rec
+    → IsLaneFrom n l (lane_run r (media_from r (Some rec) n ++ end_of r (Some l.finished)) no_lane)
+begun_lane a r n l rec state here found =
+    let is = whole_of a r l rec state here.at found in
+    let long : length rec.facts ≡ length l.facts = ap length is.facts in
+    let kept = kept_units l.floor n rec is.floor is.count here.low in
+    subst (λ (m : Lane). IsLaneFrom n l m) (sym (own_media r n rec l.finished kept (omega (arith, long, here.high))))
+    (begins_again l rec n l.finished is.init is.facts is.size refl)
 
 not_begun : (i : Option InitData) (l : Lane) (h : HeldBytes) → recorded_from i l h ≡ None → i ≡ None
 not_begun None l h none = refl
 not_begun (Some init) l h none = absurd (cc)
 
 bare_lane : (a : State) (r n : ℕ) (l : Lane) → IsState a → IsCutHere a r n l → recording_of a r ≡ None
-    → LaneBegins (lane_from n l) (lane_run r (media_from r None n ++ end_of r (Some l.finished)) no_lane)
+    → IsLaneFrom n l (lane_run r (media_from r None n ++ end_of r (Some l.finished)) no_lane)
 bare_lane a r n l state here found =
     let beside = at_beside (channel a).lanes a.bytes r l state.counts_agree here.at in
     let matches : MatchesBytes l beside.0 = state.fits r l beside.0 here.at beside.1 in
     let none : l.init ≡ None = not_begun l.init l (held_bytes a r) (ap (λ (o : Option Lane). recorded_at o (held_bytes a r)) (sym here.at) ∙ found) in
     let bare = matches.none none in
     let over : l.finished ≡ false = bare.3 in
-    subst (λ (m : Lane). LaneBegins (lane_from n l) m) (sym (ap (λ (b : Bool). lane_run r (end_of r (Some b)) no_lane) over)) (record {
+    subst (λ (m : Lane). IsLaneFrom n l m) (sym (ap (λ (b : Bool). lane_run r (end_of r (Some b)) no_lane) over)) (record {
       init = sym none;
       size = sym bare.2;
-      more = [];
-      facts = sym (ap (λ fs. drop n fs ++ []) bare.0 ∙ append-nil (drop n []) ∙ drop-nil n);
-      over = λ h. absurd (cc);
+      facts = sym (ap (λ fs. drop n fs) bare.0 ∙ drop-nil n);
+      floor = refl;
+      finished = sym over;
     })
 
 by_recording : (a : State) (r n : ℕ) (l : Lane) (o : Option RecordingData) → IsState a → IsCutHere a r n l → recording_of a r ≡ o
-    → LaneBegins (lane_from n l) (lane_run r (media_from r o n ++ end_of r (Some l.finished)) no_lane)
+    → IsLaneFrom n l (lane_run r (media_from r o n ++ end_of r (Some l.finished)) no_lane)
 by_recording a r n l None state here found = bare_lane a r n l state here found
 by_recording a r n l (Some rec) state here found = begun_lane a r n l rec state here found
 
-one_lane : (a : State) (r n : ℕ) (l : Lane) → IsState a → IsCutHere a r n l → LaneBegins (lane_from n l) (lane_run r (rendition_from a r n) no_lane)
+one_lane : (a : State) (r n : ℕ) (l : Lane) → IsState a → IsCutHere a r n l → IsLaneFrom n l (lane_run r (rendition_from a r n) no_lane)
 one_lane a r n l state here =
     let finished : finished_at a r ≡ Some l.finished = ap (λ (o : Option Lane). option_map (λ (x : Lane). x.finished) o) here.at in
-    subst (λ (o : Option Bool). LaneBegins (lane_from n l) (lane_run r (media_from r (recording_of a r) n ++ end_of r o) no_lane)) (sym finished)
+    subst (λ (o : Option Bool). IsLaneFrom n l (lane_run r (media_from r (recording_of a r) n ++ end_of r o) no_lane)) (sym finished)
     (by_recording a r n l (recording_of a r) state here refl)
 
 place_within : (s : State) (k : ℕ) (p : Place) → slice_get (places s) k ≡ Some p → IsWithin (sources s) p
@@ -342,7 +270,7 @@ cut_within a cut r l is at =
     omega (arith, within.each r below, ap length (source_of a r l at).facts)
 
 -- a cut has a spot in each rendition, between its floor and its end
-spot_of_cut : (a : State) (cut : LineCut) (r : ℕ) (l : Lane) → IsState a → IsLineCut a cut → slice_get (channel a).lanes r ≡ Some l
+pub spot_of_cut : (a : State) (cut : LineCut) (r : ℕ) (l : Lane) → IsState a → IsLineCut a cut → slice_get (channel a).lanes r ≡ Some l
     → (slice_get (cut.place).spots r ≡ Some (spot_in (cut.place).spots r)) × IsCutHere a r (cut_unit cut.place r) l
 spot_of_cut a cut r l state is at =
     let stands = front-stands (line_goal_of a.config) (places a) cut.segments cut.place (is.is_cut).front in
@@ -362,6 +290,22 @@ fresh_at a cut r l at =
     let there = some_at a.config.renditions r within in
     at_map fresh_lane a.config.renditions r there.0 there.1
 
+-- each rendition of the renewed channel is the old one from the cut on
+pub renewed_lane_at : (a b : State) (renews : Renews a b) → IsState a → (r : ℕ) (l m : Lane) → slice_get (channel a).lanes r ≡ Some l → slice_get (channel b).lanes r ≡ Some m
+    → IsLaneFrom (cut_unit (renews.cut).place r) l m
+renewed_lane_at a b renews state r l m at there =
+    let cut = renews.cut in
+    let start = renewal_start a cut in
+    let is = is_line_cut a cut state renews.first in
+    let spot = spot_of_cut a cut r l state is at in
+    let fresh : slice_get (channel start).lanes r ≡ Some no_lane = fresh_at a cut r l at in
+    let run = after_all start (renewal_events a cut) r no_lane renews.new fresh in
+    let mine : lane_run r (renewal_events a cut) no_lane ≡ lane_run r (rendition_from a r (cut_unit cut.place r)) no_lane =
+    renewal_run lane_after ignores a r ((line a).removed - cut.segments) (cut.place).spots (spot_in (cut.place).spots r) no_lane spot.0 in
+    let same : lane_run r (rendition_from a r (cut_unit cut.place r)) no_lane ≡ m =
+    some_same _ m (ap Some (sym mine) ∙ sym run ∙ ap (λ (x : State). slice_get (channel x).lanes r) (sym renews.is) ∙ there) in
+    subst (λ (x : Lane). IsLaneFrom (cut_unit cut.place r) l x) same (one_lane a r (cut_unit cut.place r) l state spot.1)
+
 -- the law
 pub renewed_channels_are_handed_over : (a b : State) (renews : Renews a b) → IsState a
     → IsHandedOver a b (renews.cut).segments (renews.cut).place × (b.config.base ≡ base_of_cut a (renews.cut).segments (renews.cut).place)
@@ -376,17 +320,7 @@ renewed_channels_are_handed_over a b renews state =
       record {
         config = ap without_base config;
         is_cut = is.is_cut;
-        each = λ r l m at there.
-            let spot = spot_of_cut a cut r l state is at in
-            let fresh : slice_get (channel start).lanes r ≡ Some no_lane = fresh_at a cut r l at in
-            let run = after_all start (renewal_events a cut) r no_lane renews.new fresh in
-            let mine : lane_run r (renewal_events a cut) no_lane ≡ lane_run r (rendition_from a r (cut_unit cut.place r)) no_lane =
-            run_append r (renditions_from a 0 (cut.place).spots) (slide_by ((line a).removed - cut.segments)) no_lane
-            ∙ slide_apart r ((line a).removed - cut.segments) (lane_run r (renditions_from a 0 (cut.place).spots) no_lane)
-            ∙ own_events a r r 0 (cut.place).spots (spot_in (cut.place).spots r) no_lane (omega arith) spot.0 in
-            let same : lane_run r (rendition_from a r (cut_unit cut.place r)) no_lane ≡ m =
-            some_same _ m (ap Some (sym mine) ∙ sym run ∙ ap (λ (x : State). slice_get (channel x).lanes r) (sym renews.is) ∙ there) in
-            inl (subst (λ (x : Lane). LaneBegins (lane_from (cut_unit cut.place r) l) x) same (one_lane a r (cut_unit cut.place r) l state spot.1));
+        each = λ r l m at there. inl (begins_from (cut_unit cut.place r) l m (renewed_lane_at a b renews state r l m at there));
       },
       ap (λ (c : ConfigData). c.base) config,
       omega (arith, version),

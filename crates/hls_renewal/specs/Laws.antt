@@ -1,9 +1,20 @@
--- The law of renewals.
-use Rattle.std.specs.Prelude.{◌≡◌, ◌+◌, ◌≤◌, length}
-use Rattle.hls_core_laws.specs.State.{State}
+-- The laws of renewals.
+use Rattle.std.specs.Prelude.{◌≡◌, ℕ, ◌+◌, ◌<◌, ◌≤◌, Some, List, length, map, drop, slice_get}
+use Rattle.hls_places_laws.specs.FromPlace.{place_since}
+use Rattle.hls_places_laws.specs.Line.Live.{segments_of}
+use Rattle.hls_m3u8.specs.Playlist.{Playlist}
+use Rattle.hls_core_laws.specs.Channel.{Lane}
+use Rattle.hls_core_laws.specs.State.{State, HeldBytes, channel}
 use Rattle.hls_core_laws.specs.IsState.{IsState}
-use Rattle.hls_playlists_laws.specs.Handovers.{IsHandedOver}
+use Rattle.hls_core_laws.specs.Follows.{Follows}
+use Rattle.hls_core_laws.specs.Line.{line}
+use Rattle.hls_core_laws.specs.Places.{places}
+use Rattle.hls_playlists_laws.specs.BasedLists.{based_list_of}
 use Rattle.hls_playlists_laws.specs.CutBases.{base_of_cut}
+use Rattle.hls_playlists_laws.specs.Handovers.{IsHandedOver, unit_at}
+use Rattle.hls_playlists_laws.specs.LaterList.{IsLater}
+use Rattle.hls_playlists_laws.specs.PathLaws.{SameUnitsFrom}
+use Rattle.hls_playlists_laws.specs.PathLists.{path_list_of}
 use Rattle.hls_renewal.specs.Renewals.{Renews}
 
 -- a renewed channel continues the old one at the cut, in each rendition, with the base of the cut. So it takes over (`base_of_cut_takes_over`
@@ -12,3 +23,36 @@ abbrev pub RenewedChannelsAreHandedOver : Type 0
 RenewedChannelsAreHandedOver = (a b : State) (renews : Renews a b) → IsState a →
     IsHandedOver a b (renews.cut).segments (renews.cut).place × (b.config.base ≡ base_of_cut a (renews.cut).segments (renews.cut).place)
     × (a.config.base.version + length a.log ≤ b.config.base.version + length b.log)
+
+-- the common places of a renewed channel are the old one's from the cut on, counted from there
+abbrev pub RenewedPlacesAreThoseFromTheCut : Type 0
+RenewedPlacesAreThoseFromTheCut = (a b : State) (renews : Renews a b) → IsState a →
+    (k : ℕ) × (slice_get (places a) k ≡ Some (renews.cut).place) × (places b ≡ map (place_since ((renews.cut).place).spots) (drop k (places a)))
+
+-- if the old channel lists a segment, the renewed one has the same playlists, by ranges and by paths
+abbrev pub RenewedListsAreEqual : Type 0
+RenewedListsAreEqual = (a b : State) (renews : Renews a b) → IsState a → (r : ℕ) → 0 < length (segments_of (line a)) →
+    (based_list_of b r ≡ based_list_of a r) × (path_list_of b r ≡ path_list_of a r)
+
+-- so they are valid as later ones of each that was sent before
+abbrev pub RenewedListsContinue : Type 0
+RenewedListsContinue = (before a b : State) (r : ℕ) (earlier : Playlist) → IsState before → Follows before a → (renews : Renews a b) →
+    0 < length (segments_of (line a)) →
+    (based_list_of before r ≡ Some earlier → (later : Playlist) × (based_list_of b r ≡ Some later) × IsLater earlier later)
+    × (path_list_of before r ≡ Some earlier → (later : Playlist) × (path_list_of b r ≡ Some later) × IsLater earlier later)
+
+-- the units that a renewed channel keeps have the same bytes. So what a path named it still names, with the same bytes
+-- (`paths_name_same_units_after_handover` and `handed_over_units_have_same_bytes` of hls_playlists_laws)
+abbrev pub RenewedUnitsHaveSameBytes : Type 0
+RenewedUnitsHaveSameBytes = (a b : State) (renews : Renews a b) → IsState a → (r : ℕ) (l m : Lane) (h g : HeldBytes) →
+    slice_get (channel a).lanes r ≡ Some l → slice_get (channel b).lanes r ≡ Some m → slice_get a.bytes r ≡ Some h → slice_get b.bytes r ≡ Some g →
+    SameUnitsFrom (unit_at (renews.cut).place r) l m h g
+
+-- the run stays, and the version doesn't fall
+pub record NeverGoesBack (a b : State) : Type 0 where
+  pub run : b.config.base.run ≡ a.config.base.run
+  pub version : a.config.base.version + length a.log ≤ b.config.base.version + length b.log
+
+-- neither in a state that follows, as one that a journal restores does, nor in a renewed channel
+abbrev pub RunsAndVersionsNeverGoBack : Type 0
+RunsAndVersionsNeverGoBack = ((a b : State) → Follows a b → NeverGoesBack a b) × ((a b : State) → Renews a b → IsState a → NeverGoesBack a b)

@@ -1,0 +1,5 @@
+use Rattle.hls_renewal.proofs.RenewedBytes.{same_bytes}
+use Rattle.hls_renewal.proofs.laws.renewed_units_have_same_bytes.Goals as goal
+
+pub returns : goal.returns
+returns c = same_bytes

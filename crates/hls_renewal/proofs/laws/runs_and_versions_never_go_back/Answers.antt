@@ -1,0 +1,5 @@
+use Rattle.hls_renewal.proofs.NeverBack.{never_back}
+use Rattle.hls_renewal.proofs.laws.runs_and_versions_never_go_back.Goals as goal
+
+pub returns : goal.returns
+returns c = never_back
