@@ -38,6 +38,7 @@ pub use jobs::job::{Job, JobRow, JobState, Work};
 pub use laws::good_certificates_are_accepted;
 pub use place_iterator::next_place;
 pub use place_table::table_of;
+pub use programme::{Programme, find_programme};
 pub use reply::Reply;
 pub use reply_units::{ReplyUnits, find_reply_units, reply_total};
 pub use request::Request;

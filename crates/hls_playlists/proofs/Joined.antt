@@ -8,8 +8,8 @@ use Rattle.hls_playlists_laws.specs.JoinedLists.{Offsets, joined_list, joined_se
 use Rattle.hls_playlists_laws.specs.BasedLists.{offsets_from}
 use Rattle.hls_playlists_laws.specs.PathLists.{list_by_paths}
 use Rattle.hls_playlists.specs.declared.media_uris.MediaUris.{MediaUris}
-use Rattle.hls_playlists.specs.declared.media_uris.MediaUris.TheVariants.{Paths, Ranges}
-use Rattle.hls_playlists.specs.MediaUris.{served_list, served_map}
+use Rattle.hls_playlists.specs.declared.media_uris.MediaUris.TheVariants.{Paths, PathsAbove, Ranges}
+use Rattle.hls_playlists.specs.MediaUris.{run_above, served_list, served_map}
 
 pub joined_first : (o : Offsets) (number : ℕ) (x : MediaSegment) → number ≡ 0 → with_mark o.marked (shifted_segment o.bytes x) ≡ joined_segment o number x
 joined_first o zero x is = refl
@@ -57,6 +57,20 @@ head_served Paths base r list sequence marks before map empty sequence_is marks_
     let counted : marks ≡ base.marks + list.discontinuity_sequence + marks_uncounted (offsets_from base r) list.media_sequence = omega (arith, marks_is, before_is) in
     let none : list.segments ≡ (list_by_paths (run_text base.run) r (joined_list (offsets_from base r) list)).segments =
     empty ∙ ap (λ (xs : List MediaSegment). (list_by_paths (run_text base.run) r (joined_list (offsets_from base r) (record list { segments = xs }))).segments) (sym empty) in
+    λ k. record {
+      version = list.version;
+      target = list.target;
+      media_sequence = sequence_is k;
+      discontinuity_sequence = counted k;
+      kind = list.kind;
+      map = map_is k;
+      segments = none k;
+      ended = list.ended;
+    }
+head_served PathsAbove base r list sequence marks before map empty sequence_is marks_is before_is map_is =
+    let counted : marks ≡ base.marks + list.discontinuity_sequence + marks_uncounted (offsets_from base r) list.media_sequence = omega (arith, marks_is, before_is) in
+    let none : list.segments ≡ (list_by_paths (run_above base) r (joined_list (offsets_from base r) list)).segments =
+    empty ∙ ap (λ (xs : List MediaSegment). (list_by_paths (run_above base) r (joined_list (offsets_from base r) (record list { segments = xs }))).segments) (sym empty) in
     λ k. record {
       version = list.version;
       target = list.target;

@@ -24,8 +24,8 @@ use Rattle.hls_playlists_laws.specs.JoinedLists.{Offsets, joined_list, joined_se
 use Rattle.hls_playlists_laws.specs.BasedLists.{offsets_from}
 use Rattle.hls_playlists_laws.specs.PathLists.{list_by_paths, media_folder, segment_in}
 use Rattle.hls_playlists.specs.declared.media_uris.MediaUris.{MediaUris}
-use Rattle.hls_playlists.specs.declared.media_uris.MediaUris.TheVariants.{Paths, Ranges}
-use Rattle.hls_playlists.specs.MediaUris.{served_list, served_list_of, served_segment}
+use Rattle.hls_playlists.specs.declared.media_uris.MediaUris.TheVariants.{Paths, PathsAbove, Ranges}
+use Rattle.hls_playlists.specs.MediaUris.{run_above, served_list, served_list_of, served_segment}
 use Rattle.hls_playlists.specs.LiveWriter.{HasSegments, ListHasSegments, CanBeWritten, ReachesStop, ListReaches, rest_of_list, rest_of_live_list, served_segment_text, live_list_by, list_over_segments}
 use Rattle.hls_playlists_laws.proofs.Callers.{live-lists-have-texts, starts-small}
 
@@ -67,12 +67,16 @@ pub served_none : (uris : MediaUris) (s : State) (r : ℕ) → live_list_of s r 
 served_none Ranges s r none = ap (option_map (joined_list (offsets_from s.config.base r))) none
 served_none Paths s r none =
     ap (λ (o : Option Playlist). option_map (list_by_paths (run_text s.config.base.run) r) (option_map (joined_list (offsets_from s.config.base r)) o)) none
+served_none PathsAbove s r none =
+    ap (λ (o : Option Playlist). option_map (list_by_paths (run_above s.config.base) r) (option_map (joined_list (offsets_from s.config.base r)) o)) none
 
-served-some : (uris : MediaUris) (s : State) (r : ℕ) (list : Playlist) → live_list_of s r ≡ Some list
+pub served-some : (uris : MediaUris) (s : State) (r : ℕ) (list : Playlist) → live_list_of s r ≡ Some list
     → served_list_of uris s r ≡ Some (served_list uris s.config.base r list)
 served-some Ranges s r list there = ap (option_map (joined_list (offsets_from s.config.base r))) there
 served-some Paths s r list there =
     ap (λ (o : Option Playlist). option_map (list_by_paths (run_text s.config.base.run) r) (option_map (joined_list (offsets_from s.config.base r)) o)) there
+served-some PathsAbove s r list there =
+    ap (λ (o : Option Playlist). option_map (list_by_paths (run_above s.config.base) r) (option_map (joined_list (offsets_from s.config.base r)) o)) there
 
 served-next : (uris : MediaUris) (base : BaseData) (r : ℕ) (list : Playlist) (k : ℕ) (x : MediaSegment) (rest : List MediaSegment) → drop k list.segments ≡ x ∷ rest
     → (tail : List MediaSegment) × (drop k (served_list uris base r list).segments ≡ served_segment uris base r (list.media_sequence + k) x ∷ tail)
@@ -85,21 +89,33 @@ served-next Paths base r list k x rest is =
       drop-map path k (joined_segments (offsets_from base r) list.media_sequence list.segments)
           ∙ ap (map path) (joined-drop (offsets_from base r) list.media_sequence k list.segments x rest is),
     )
+served-next PathsAbove base r list k x rest is =
+    let path : MediaSegment → MediaSegment = segment_in (media_folder (run_above base) r) in
+    let tail : List MediaSegment = joined_segments (offsets_from base r) (suc (list.media_sequence + k)) rest in (
+      map path tail,
+      drop-map path k (joined_segments (offsets_from base r) list.media_sequence list.segments)
+          ∙ ap (map path) (joined-drop (offsets_from base r) list.media_sequence k list.segments x rest is),
+    )
 
 served-count : (uris : MediaUris) (base : BaseData) (r : ℕ) (list : Playlist) → length (served_list uris base r list).segments ≡ length list.segments
 served-count Ranges base r list = joined-count (offsets_from base r) list.media_sequence list.segments
 served-count Paths base r list =
     length-map (joined_segments (offsets_from base r) list.media_sequence list.segments) (segment_in (media_folder (run_text base.run) r))
     ∙ joined-count (offsets_from base r) list.media_sequence list.segments
+served-count PathsAbove base r list =
+    length-map (joined_segments (offsets_from base r) list.media_sequence list.segments) (segment_in (media_folder (run_above base) r))
+    ∙ joined-count (offsets_from base r) list.media_sequence list.segments
 
 served-ended : (uris : MediaUris) (base : BaseData) (r : ℕ) (list : Playlist) → (served_list uris base r list).ended ≡ list.ended
 served-ended Ranges base r list = refl
 served-ended Paths base r list = refl
+served-ended PathsAbove base r list = refl
 
 served-head : (uris : MediaUris) (base : BaseData) (s : State) (r : ℕ) (recorded : RecordingData)
     → head_lines (served_list uris base r (list_over_segments s recorded (live_uri r) [])) ≡ head_lines (served_list uris base r (live_list_by s r recorded))
 served-head Ranges base s r recorded = refl
 served-head Paths base s r recorded = refl
+served-head PathsAbove base s r recorded = refl
 
 -- ---- a state's playlist
 

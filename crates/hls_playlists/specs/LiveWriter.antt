@@ -1,8 +1,9 @@
 -- The text of a live playlist, written in parts.
-use Rattle.std.specs.Prelude.{ℕ, ◌<◌, ◌≤◌, ◌^◌, ◌⊎◌, List, [], ◌++◌, length, map, drop, Option, Some, None}
+use Rattle.std.specs.Prelude.{ℕ, ◌+◌, ◌<◌, ◌≤◌, ◌^◌, ◌⊎◌, List, [], ◌++◌, length, map, drop, Option, Some, None}
 use Rattle.hls_record.specs.RecordingData.{RecordingData}
 use Rattle.hls_places_laws.specs.Line.Live.{has_ended, segments_of}
 use Rattle.hls_m3u8.specs.declared.playlist.MediaSegment.{MediaSegment}
+use Rattle.hls_m3u8.specs.declared.playlist.PlaylistKind.{PlaylistKind}
 use Rattle.hls_m3u8.specs.Playlist.{Playlist}
 use Rattle.hls_m3u8.specs.PlaylistForms.{live_list}
 use Rattle.hls_m3u8.specs.HasText.{IsDate}
@@ -26,6 +27,19 @@ list_over_segments s recorded uri segments =
 -- that of a state
 abbrev pub live_list_by : State → ℕ → RecordingData → Playlist
 live_list_by s r recorded = list_over_segments s recorded (live_uri r) (map (live_media_segment (job_layout s.config.epoch recorded r (live_uri r) 0)) (segments_of (line s)))
+
+-- a playlist without segments as the head of one without its first n segments, which have so many marks
+abbrev pub shortened_head : Option PlaylistKind → ℕ → ℕ → Playlist → Playlist
+shortened_head kind n marks list = record {
+  version = list.version;
+  target = list.target;
+  media_sequence = list.media_sequence + n;
+  discontinuity_sequence = list.discontinuity_sequence + marks;
+  kind = kind;
+  map = list.map;
+  segments = list.segments;
+  ended = list.ended;
+}
 
 -- a segment of the live line that can be written, and its lines
 abbrev pub CanBeWritten : ResourceLayout → live_line.LiveSegment → Type 0

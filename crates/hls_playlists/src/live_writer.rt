@@ -1,6 +1,6 @@
 //! Writes the text of a live playlist in parts: a long one takes a tenth of a second, and other connections get their turn in between.
 
-ghost use Rattle.std.specs.Prelude.{◌≡◌, ◌++◌, ◌<◌, ◌≤◌, ◌^◌, [], IfOk, MatchOption, None, Some};
+ghost use Rattle.std.specs.Prelude.{◌≡◌, ◌++◌, ◌+◌, ◌<◌, ◌≤◌, ◌^◌, [], IfOk, MatchOption, None, Some, cond, length};
 ghost use Rattle.std.specs.Option.{option_map};
 ghost use Rattle.hls_check_tables.specs.Tables.{spot_in};
 ghost use Rattle.hls_m3u8.specs.HasText.{IsDate};
@@ -8,7 +8,11 @@ ghost use Rattle.hls_m3u8.specs.Lines.{media_text};
 ghost use Rattle.hls_core_laws.specs.Config.{IsEpoch};
 ghost use Rattle.hls_playlists_laws.specs.Live.{live_list_of, live_media_segment};
 ghost use Rattle.hls_playlists_laws.specs.JobPlaylists.{job_layout};
-ghost use Rattle.hls_playlists.specs.LiveWriter.{HasSegments, ReachesStop, rest_of_live_list, served_segment_text, live_list_by, list_over_segments};
+ghost use Rattle.hls_places_laws.specs.Line.Live.{segments_of};
+ghost use Rattle.hls_places_laws.specs.Line.Lengths.{marks_in};
+ghost use Rattle.hls_core_laws.specs.Line.{line};
+ghost use Rattle.hls_playlists.specs.ShortLists.{shortened_list_of};
+ghost use Rattle.hls_playlists.specs.LiveWriter.{shortened_head, HasSegments, ReachesStop, rest_of_live_list, served_segment_text, live_list_by, list_over_segments};
 ghost use Rattle.hls_playlists.specs.MediaUris.{HasRange, media_uri, served_list, served_list_of};
 ghost use Rattle.hls_m3u8.specs.Playlist.{playlist_of};
 ghost use Rattle.hls_core_laws.specs.IsState.{IsState};
@@ -20,8 +24,8 @@ use crate::segments::segment_between;
 use bytes::ByteStr;
 use hls_core::base::Base;
 use hls_core::snapshot::Snapshot;
-use hls_live::LiveSegment;
-use hls_m3u8::{MediaPlaylist, MediaSegment, push_end, push_head, push_segment};
+use hls_live::{LiveLine, LiveSegment};
+use hls_m3u8::{MediaPlaylist, MediaSegment, PlaylistKind, push_end, push_head, push_segment};
 use hls_record::Recording;
 use std::alloc::{AllocError, Global};
 use std::marker::Model;
@@ -245,6 +249,87 @@ fn write_head(alloc: Global, served: ServedList<'_>) -> Result<Option<Vec<u8>>, 
     Ok(Some(text))
 }
 
+/// Returns 1 for a segment with a mark, else 0.
+fn mark_count(segment: &LiveSegment) -> u64
+    ensures { result ≡ cond segment.now.mark 1 0 }
+{
+    if segment.mark { 1 } else { 0 }
+}
+
+/// Returns how many of the first `n` segments of a line have a mark.
+fn count_marks(line: &LiveLine, n: u64) -> u64
+    requires { n ≤ length (segments_of line.now) }
+    ensures value { result ≡ marks_in n (segments_of line.now) }
+    ensures few { result ≤ n }
+{
+    let mut walk = iter_segments_from(line, 0);
+    let mut marks = 0;
+    let mut next = 0;
+    while next < n {
+        let Some(segment) = next_segment(&mut walk) else {
+            unreachable!();
+        };
+        marks += mark_count(segment);
+        next += 1;
+    }
+    marks
+}
+
+/// Returns the head of a line's playlist without the first `left_out` segments.
+fn shorten_head(
+    line: &LiveLine,
+    left_out: u64,
+    kind: Option<PlaylistKind>,
+    list: MediaPlaylist,
+) -> MediaPlaylist
+    requires within { left_out ≤ length (segments_of line.now) }
+    requires sequence { list.media_sequence ≡ line.now.removed }
+    requires few { list.discontinuity_sequence ≤ line.now.removed }
+    ensures value { playlist_of result ≡ shortened_head kind left_out (marks_in left_out (segments_of line.now)) (playlist_of list) }
+    ensures sequence { result.media_sequence < 1000000000000000 }
+    ensures marks { result.discontinuity_sequence < 1000000000000000 }
+{
+    let _ = line.segments().next(); // the proof needs that the segments' numbers fit
+    MediaPlaylist {
+        version: list.version,
+        target: list.target,
+        media_sequence: list.media_sequence + left_out,
+        discontinuity_sequence: list.discontinuity_sequence + count_marks(line, left_out),
+        kind,
+        map: list.map,
+        segments: list.segments,
+        ended: list.ended,
+    }
+}
+
+/// Writes the head of a rendition's live playlist without its first `left_out` segments. `None` if there is no playlist.
+fn write_shortened_head(
+    alloc: Global,
+    served: ServedList<'_>,
+    left_out: u64,
+    kind: Option<PlaylistKind>,
+) -> Result<Option<Vec<u8>>, AllocError>
+    requires { left_out ≤ length (segments_of (line served.snapshot.now)) }
+    ensures { IfOk result (λ head. option_map (λ text. text.items ++ rest_of_live_list served.entry.uris served.entry.snapshot.now served.entry.rendition left_out) head ≡ option_map media_text (shortened_list_of served.entry.uris kind left_out served.entry.snapshot.now served.entry.rendition)) }
+{
+    let Some(recording) = find_listed_recording(served.snapshot, served.rendition) else {
+        return Ok(None);
+    };
+    let uri = resource_uri(alloc, "/media/", served.rendition)?;
+    let whole = make_live_playlist(served.snapshot, recording, uri, Vec::new(alloc));
+    let own = shorten_head(served.snapshot.line(), left_out, kind, whole);
+    let list = serve_head(
+        alloc,
+        served.snapshot.config().base(),
+        served.rendition,
+        served.uris,
+        own,
+    )?;
+    let mut text = Vec::with_capacity(alloc, HEAD_ROOM)?;
+    push_head(&mut text, &list)?;
+    Ok(Some(text))
+}
+
 impl LivePlaylistWriter {
     /// Starts the text of a rendition's live playlist with its head; it counts from the channel's base. `None` before a segment was
     /// closed, and if the channel has no such rendition.
@@ -269,6 +354,35 @@ impl LivePlaylistWriter {
             rendition,
             uris,
             written: 0,
+            text,
+        }))
+    }
+
+    /// Starts the text of a rendition's live playlist without its first `left_out` segments, which it counts as removed.
+    pub fn new_shortened(
+        alloc: Global,
+        snapshot: Arc<Snapshot>,
+        rendition: usize,
+        uris: MediaUris,
+        left_out: u64,
+        kind: Option<PlaylistKind>,
+    ) -> Result<Option<LivePlaylistWriter>, AllocError>
+        requires { left_out ≤ length (segments_of (line snapshot.value)) }
+        ensures { IfOk result (λ found. found ≡ option_map media_text (shortened_list_of uris kind left_out snapshot.value rendition)) }
+    {
+        let served = ServedList {
+            snapshot: &snapshot,
+            rendition,
+            uris,
+        };
+        let Some(text) = write_shortened_head(alloc, served, left_out, kind)? else {
+            return Ok(None);
+        };
+        Ok(Some(LivePlaylistWriter {
+            snapshot,
+            rendition,
+            uris,
+            written: left_out,
             text,
         }))
     }

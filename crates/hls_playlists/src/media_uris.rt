@@ -22,6 +22,8 @@ pub enum MediaUris {
     Ranges,
     /// A path for each range, `<run>/<r>/<first>-<last>.m4s`, and `<run>/<r>/init.mp4`.
     Paths,
+    /// The same paths after `../../`, for a playlist that is two folders further down, as in `/hls/since/<from>/`.
+    PathsAbove,
 }
 
 /// Returns the name of a run, without the zero bytes that fill it up.
@@ -40,6 +42,15 @@ fn media_folder(alloc: Global, base: &Base, rendition: usize) -> Result<ByteStr,
     ByteStr::from_string(format!(in alloc; "{run}/{rendition}/")?)
 }
 
+/// Returns the folder of a rendition's media, seen from a playlist two folders below: `../../<run>/<r>/`.
+fn folder_above(alloc: Global, base: &Base, rendition: usize) -> Result<ByteStr, AllocError>
+    ensures { IfOk result (λ folder. folder ≡ paths.media_folder (spec.run_above base.now) rendition) }
+{
+    let run = run_name(alloc, base)?;
+    let run: &str = &run;
+    ByteStr::from_string(format!(in alloc; "../../{run}/{rendition}/")?)
+}
+
 /// Returns where the URIs of a rendition's media begin: the URI of its recording, or the folder of its paths.
 pub(crate) fn media_uri(
     alloc: Global,
@@ -52,6 +63,7 @@ pub(crate) fn media_uri(
     match uris {
         MediaUris::Ranges => resource_uri(alloc, "/media/", rendition),
         MediaUris::Paths => media_folder(alloc, base, rendition),
+        MediaUris::PathsAbove => folder_above(alloc, base, rendition),
     }
 }
 
@@ -168,7 +180,7 @@ impl<'a> SegmentForm<'a> {
         let segment = join_segment(self.base, self.rendition, number, segment);
         match self.uris {
             MediaUris::Ranges => Ok(segment),
-            MediaUris::Paths => segment_in(alloc, self.uri, segment),
+            MediaUris::Paths | MediaUris::PathsAbove => segment_in(alloc, self.uri, segment),
         }
     }
 }
@@ -202,5 +214,6 @@ pub(crate) fn serve_map(
     match uris {
         MediaUris::Ranges => Ok(own),
         MediaUris::Paths => Ok(Some(init_in(alloc, &media_folder(alloc, base, rendition)?)?)),
+        MediaUris::PathsAbove => Ok(Some(init_in(alloc, &folder_above(alloc, base, rendition)?)?)),
     }
 }

@@ -1,0 +1,5 @@
+use Rattle.hls_playlists.proofs.RecentLists.{recent-lists-follow}
+use Rattle.hls_playlists.proofs.recent_list.recent_lists_follow.Goals as goal
+
+pub returns : goal.returns
+returns c = recent-lists-follow c.front_is_a_place.ensures c.based_lists_follow.ensures

@@ -1,0 +1,7 @@
+use Rattle.std.proofs.Common.{length, arith, ap}
+use Rattle.hls_playlists.proofs.start_time.count_started.Goals as goal
+
+pub overflow_add-count : goal.overflow_add-count
+overflow_add-count c =
+    let long = ap length c.in-Some.ensures in
+    omega (arith, long, c.loop-segment.invariant.left, c.first_number.ensures.fits)

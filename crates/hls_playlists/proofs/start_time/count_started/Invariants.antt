@@ -1,0 +1,14 @@
+use Rattle.std.proofs.Common.{◌≡◌, ◌+◌, length}
+use Rattle.hls_places_laws.specs.Line.Live.{segments_of}
+use Rattle.hls_playlists.specs.StartTimes.{count_started}
+use Rattle.hls_playlists.proofs.start_time.count_started.Given as goal
+
+-- with those that aren't read yet they are all
+abbrev pub invariant-loop-segment : goal.invariant-loop-segment
+invariant-loop-segment l = record {
+  left : l.count + length l.walk ≡ length (segments_of l.line);
+  started : l.count + count_started l.us l.walk ≡ count_started l.us (segments_of l.line);
+}
+
+abbrev pub decreases-loop-segment : goal.decreases-loop-segment
+decreases-loop-segment l = length l.walk
