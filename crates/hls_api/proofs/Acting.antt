@@ -2,7 +2,8 @@
 use Rattle.std.proofs.Common.{◌≡◌, ◌∙◌, Some, List, [], ◌∷◌, ◌++◌, refl, sym, ap, subst, append_assoc, append-nil}
 use Rattle.hls_api.specs.{Acts.{Act, ActsExtend, AreActSteps, Knowledge, RecordsLook}, OtherActors.OtherActors, Responses.ResponseData, Routes.is_to_head, Types.{Route, State}}
 use Rattle.hls_api.specs.Exchanges.{IsServedBy, RequestParams, range_for, shown_to_player}
-use Rattle.hls_api.specs.Players.{init_answer, live_list_answer, path_master_answer, run_answer, segment_answer}
+use Rattle.hls_api.specs.Players.{init_answer, live_list_answer, path_master_answer, recent_list_answer, run_answer, segment_answer}
+use Rattle.hls_api.specs.SinceLists.{since_answer}
 use Rattle.hls_playlists.specs.declared.media_uris.MediaUris.TheVariants.{Paths}
 use Rattle.hls_api.specs.declared.route.Route.TheVariants as routes
 
@@ -22,9 +23,11 @@ pub player_served : (q : RequestParams) (route : Route) (a b : List Act) (s : St
     IsServedBy q route a answer b
 player_served q routes.PathMaster a b s answer looks is = (s, looks, let same : answer ≡ path_master_answer s = cc in same)
 player_served q (routes.PathList r) a b s answer looks is = (s, looks, let same : answer ≡ live_list_answer Paths s r = cc in same)
+player_served q (routes.RecentList r us) a b s answer looks is = (s, looks, let same : answer ≡ recent_list_answer us s r = cc in same)
 player_served q routes.Run a b s answer looks is = (s, looks, let same : answer ≡ run_answer s = cc in same)
 player_served q (routes.InitSection run r) a b s answer looks is =
     (s, looks, let same : answer ≡ init_answer s run r (range_for (is_to_head q.method) q.range) = cc in same)
 player_served q (routes.Segment run r first last) a b s answer looks is =
     (s, looks, let same : answer ≡ segment_answer s run r first last (range_for (is_to_head q.method) q.range) = cc in same)
+player_served q (routes.Since start file) a b s answer looks is = (s, looks, let same : answer ≡ since_answer s start file = cc in same)
 player_served q route a b s answer looks is = absurd (cc)

@@ -8,10 +8,10 @@ use Rattle.hls_catchup.specs.declared.jobs.job.Job.TheVariants as told
 use Rattle.hls_api.specs.declared.route.Route.TheVariants as routes
 use Rattle.hls_api.specs.declared.route.JobFile.TheVariants as files
 
-leading_zero : route_of (record { renditions = 2; mending = None }) (codes "/live/01.m3u8") ≡ None
+leading_zero : route_of (record { renditions = 2; mending = None; shown_us = None }) (codes "/live/01.m3u8") ≡ None
 leading_zero = refl
 
-job_media : route_of (record { renditions = 1; mending = None }) (codes "/job/12/0.mp4") ≡ Some (routes.JobFile 12 (files.Media 0))
+job_media : route_of (record { renditions = 1; mending = None; shown_us = None }) (codes "/job/12/0.mp4") ≡ Some (routes.JobFile 12 (files.Media 0))
 unfolding number_of_digits
 job_media = refl
 

@@ -6,6 +6,7 @@ mod PathAnswers
 mod Programmes
 mod Acting
 mod Examples
+mod JumpSteps
 mod Linking
 mod Requests
 pub mod Callers

@@ -3,7 +3,7 @@ use Rattle.std.proofs.Common.{◌≡◌, ◌∙◌, List, [], ◌∷◌, ◌++�
 use Rattle.hls_core_laws.specs.{declared.event.LoggedEvent.LoggedEvent, IsState.IsState, Moves.logged_event, Follows.Follows}
 use Rattle.hls_core_laws.specs.Outcome.{Outcome, New, Repeated, Refused}
 use Rattle.hls_core_laws.proofs.Callers.{state_of, follows_itself, follows_through, moves_follow, seen_suffices}
-use Rattle.hls_api.specs.Acts.{Act, ActsExtend, Added, AreActSteps, HasEffect, Knowledge, IsActStep, Looked, LookFailed, Removed, Submitted, view_of}
+use Rattle.hls_api.specs.Acts.{Act, ActsExtend, Added, AreActSteps, HasEffect, Knowledge, IsActStep, Looked, LookFailed, ReadEncoders, Removed, Submitted, view_of}
 use Rattle.hls_api.specs.{ActLinks.{IsLaterKnowledge, AreLinked}, OtherActors.OtherActors, Types.{Event, Refusal, State, Done, PassView}}
 use Rattle.hls_core_laws.specs.PassView as calls
 
@@ -53,6 +53,7 @@ does_grow a b (Submitted event answer) valid (fits, s) =
     (moved.0, record { number = s.number; follows = follows_through a.seen s.met b.seen s.follows moved.1; more = more.0; mine = more.1 })
 does_grow a b (Added s request result) valid (same, added) = (subst (λ (k : PassView). IsState k.seen) (sym same) valid, same_grows a b same)
 does_grow a b (Removed id result) valid (same, removed) = (subst (λ (k : PassView). IsState k.seen) (sym same) valid, same_grows a b same)
+does_grow a b (ReadEncoders readings) valid same = (subst (λ (k : PassView). IsState k.seen) (sym same) valid, same_grows a b same)
 
 pub act_later : (a b : Knowledge) (act : Act) → IsState a.seen → IsActStep a act b → IsState b.seen × IsLaterKnowledge a b
 act_later a b act valid act_steps =

@@ -3,9 +3,14 @@ use Rattle.std.proofs.Common.{◌≡◌, ◌∙◌, ℕ, suc, ◌≤◌, List, [
 use Rattle.std.{specs.Prelude.{All, slice_index_or, option_map}, proofs.lemmas.List.Elements.{All-nil, All-push}}
 use Rattle.hls_core_laws.specs.{State.State, Follows.Follows, Moves.{Moves, entry_of}, PassView.{PassView, MaySeeLater, Submits}, Outcome.{Outcome, New, Repeated, Refused}}
 use Rattle.hls_core_laws.specs.declared.{event.Event.Event, done.Done.Done, refusal.Refusal.Refusal}
+use Rattle.hls_core_laws.specs.Config.{ConfigData}
+use Rattle.hls_core_laws.proofs.Callers.{continues_of}
 use Rattle.hls_m3u8.specs.Lines.{media_text}
+use Rattle.hls_m3u8.specs.Playlist.{Playlist}
+use Rattle.hls_playlists_laws.specs.{BasedLists.based_list_of, PathLists.list_by_paths}
+use Rattle.hls_playlists.specs.MediaUris.{run_above}
 use Rattle.hls_playlists_laws.proofs.Callers.{based-lists-stay}
-use Rattle.hls_playlists.specs.declared.media_uris.MediaUris.TheVariants.{Paths, Ranges}
+use Rattle.hls_playlists.specs.declared.media_uris.MediaUris.TheVariants.{Paths, PathsAbove, Ranges}
 use Rattle.hls_api.specs.Playlists.{live_text}
 use Rattle.hls_api.specs.declared.playlist_cache.CachedPlaylist.{CachedPlaylist}
 use Rattle.hls_playlists.specs.declared.media_uris.MediaUris.{MediaUris}
@@ -37,6 +42,11 @@ pushed source now false old new x text same is here grown all = subst (λ (l : L
 texts_stay : (uris : MediaUris) (r : ℕ) (a b later : State) → Follows a later → Follows b later → length b.log ≡ length a.log → live_text uris b r ≡ live_text uris a r
 texts_stay Ranges r a b later a_first b_first as_many = ap (option_map media_text) (based-lists-stay a b later a_first b_first as_many r).0
 texts_stay Paths r a b later a_first b_first as_many = ap (option_map media_text) (based-lists-stay a b later a_first b_first as_many r).1
+texts_stay PathsAbove r a b later a_first b_first as_many =
+    let lists = (based-lists-stay a b later a_first b_first as_many r).0 in
+    let config : b.config ≡ a.config = sym (continues_of b later b_first).config ∙ (continues_of a later a_first).config in
+    ap (λ (o : Option Playlist). option_map media_text (option_map (list_by_paths (run_above b.config.base) r) o)) lists
+    ∙ ap (λ (c : ConfigData). option_map media_text (option_map (list_by_paths (run_above c.base) r) (based_list_of a r))) config
 
 log_grows : (a b : State) → Follows a b → length a.log ≤ length b.log
 log_grows a b (inl same) = omega (arith, ap (λ (s : State). length s.log) same)

@@ -4,16 +4,19 @@ use Rattle.hls_core_laws.specs.{declared.event.LoggedEvent.LoggedEvent, declared
 use Rattle.hls_catchup.specs.Jobs.Shared.{HasRemoved}
 use Rattle.hls_api.specs.{JobTable.IsAddResult, OtherActors.OtherActors, OtherActors.MayBecome, OtherActors.HasMet}
 use Rattle.hls_api.specs.Types.{Event, Refusal, Request, State, Done, JobFault, PassView}
+use Rattle.hls_api.specs.declared.encoder_readings.EncoderReadings.{EncoderReadings}
 use Rattle.hls_core_laws.specs.PassView as calls
 
 -- a look, and the state that it returned; a look that returned none, for an allocation failure; an event, and its outcome; a job that
--- was added with a state, and a job that was removed, each with its result. Reading the table of jobs is no act
+-- was added with a state, and a job that was removed, each with its result; what was read of the encoders. Reading the table of jobs is
+-- no act
 pub data Act : Type 0 where
   Looked : (state : State) → Act
   LookFailed : Act
   Submitted : (event : Event) (answer : Result Done Refusal) → Act
   Added : (state : State) (request : Request) (result : Result ℕ JobFault) → Act
   Removed : (id : ℕ) (result : Result (Unit {0}) JobFault) → Act
+  ReadEncoders : (readings : EncoderReadings) → Act
 
 -- ---- one act is added
 
@@ -33,6 +36,9 @@ RecordsAdd before s request result after = after ≡ before ++ Added s request r
 
 abbrev pub RecordsRemove : List Act → ℕ → Result (Unit {0}) JobFault → List Act → Type 0
 RecordsRemove before id result after = after ≡ before ++ Removed id result ∷ []
+
+abbrev pub RecordsReading : List Act → EncoderReadings → List Act → Type 0
+RecordsReading before readings after = after ≡ before ++ ReadEncoders readings ∷ []
 
 -- ---- acts that change nothing
 
@@ -80,13 +86,14 @@ knowledge_of known acts = record { number = known.number; seen = known.seen; min
 abbrev pub knowledge_after : Knowledge → Act → Knowledge
 knowledge_after a act = record a { acts = a.acts ++ act ∷ [] }
 
--- an act on the table of jobs doesn't change the channel
+-- an act on the table of jobs doesn't change the channel, and nor does reading what is known of the encoders
 abbrev pub HasEffect : PassView → Act → PassView → Type 0
 HasEffect a (Looked s) b = calls.Looks a s b
 HasEffect a LookFailed b = calls.MaySeeLater a b
 HasEffect a (Submitted event answer) b = IsFittingAsSeen a.seen event × calls.Submits a event answer b
 HasEffect a (Added s request result) b = (b ≡ a) × IsAddResult s request result
 HasEffect a (Removed id result) b = (b ≡ a) × HasRemoved id result
+HasEffect a (ReadEncoders readings) b = b ≡ a
 
 -- a step from what the keeper knew to what it knows: this act is added, and no other
 pub record IsActStep (a : Knowledge) (act : Act) (b : Knowledge) : Type 0 where

@@ -16,9 +16,10 @@ use Rattle.hls_api.specs.{declared.catchup_query.QueryFault.TheVariants.BadQuery
 use Rattle.hls_api.specs.Acts.{Act, ActsChangeNothing, RecordsAdd, RecordsLook, RecordsRemove, RecordsSubmit}
 use Rattle.hls_api.specs.{Ingest.{HandlesBody, Progress, IsBodyStop, counts_text}, Playlists.live_master_text}
 use Rattle.hls_metrics.specs.declared.measured.Measured.{Measured}
-use Rattle.hls_api.specs.Players.{init_answer, live_list_answer, path_master_answer, run_answer, segment_answer}
+use Rattle.hls_api.specs.Players.{init_answer, live_list_answer, path_master_answer, recent_list_answer, run_answer, segment_answer}
 use Rattle.hls_playlists.specs.declared.media_uris.MediaUris.TheVariants.{Paths, Ranges}
 use Rattle.hls_api.specs.Programmes.{ShowsProgramme}
+use Rattle.hls_api.specs.SinceLists.{since_answer}
 use Rattle.hls_api.specs.JobResponses.{added_answer, query_answer, file_answer, removed_answer, job_answer}
 use Rattle.hls_api.specs.Queries.{query_in, request_for, catchup_params_of}
 use Rattle.hls_api.specs.Routes.{allows, takes_ingest, is_to_head, path_of, query_of, removes_job, route_of}
@@ -133,18 +134,22 @@ ServesJob q route id a answer b false = (b ≡ a) × RespondsWithJob id (shown_i
 abbrev pub IsForPlayer : Route → Type 0
 IsForPlayer routes.PathMaster = ⊤
 IsForPlayer (routes.PathList r) = ⊤
+IsForPlayer (routes.RecentList r us) = ⊤
 IsForPlayer routes.Run = ⊤
 IsForPlayer (routes.InitSection run r) = ⊤
 IsForPlayer (routes.Segment run r first last) = ⊤
+IsForPlayer (routes.Since start file) = ⊤
 IsForPlayer route = ⊥
 
 -- what a player is shown of a state
 abbrev pub shown_to_player : RequestParams → Route → State → Option ResponseData
 shown_to_player q routes.PathMaster s = Some (path_master_answer s)
 shown_to_player q (routes.PathList r) s = Some (live_list_answer Paths s r)
+shown_to_player q (routes.RecentList r us) s = Some (recent_list_answer us s r)
 shown_to_player q routes.Run s = Some (run_answer s)
 shown_to_player q (routes.InitSection run r) s = Some (init_answer s run r (range_for (is_to_head q.method) q.range))
 shown_to_player q (routes.Segment run r first last) s = Some (segment_answer s run r first last (range_for (is_to_head q.method) q.range))
+shown_to_player q (routes.Since start file) s = Some (since_answer s start file)
 shown_to_player q route s = None
 
 -- if the route allows the method
@@ -155,10 +160,12 @@ IsServedBy q (routes.LiveList r) a answer b = RespondsWithState a b (λ s. live_
 IsServedBy q (routes.Media r) a answer b = RespondsWithState a b (λ s. media_answer s r (range_for (is_to_head q.method) q.range)) answer
 IsServedBy q routes.PathMaster a answer b = RespondsWithState a b (λ s. path_master_answer s) answer
 IsServedBy q (routes.PathList r) a answer b = RespondsWithState a b (λ s. live_list_answer Paths s r) answer
+IsServedBy q (routes.RecentList r us) a answer b = RespondsWithState a b (λ s. recent_list_answer us s r) answer
 IsServedBy q routes.Run a answer b = RespondsWithState a b (λ s. run_answer s) answer
 IsServedBy q (routes.InitSection run r) a answer b = RespondsWithState a b (λ s. init_answer s run r (range_for (is_to_head q.method) q.range)) answer
 IsServedBy q (routes.Segment run r first last) a answer b =
     RespondsWithState a b (λ s. segment_answer s run r first last (range_for (is_to_head q.method) q.range)) answer
+IsServedBy q (routes.Since start file) a answer b = RespondsWithState a b (λ s. since_answer s start file) answer
 IsServedBy q (routes.Programme start stop file) a answer b = RespondsWithSome a b (λ s shown. ShowsProgramme s start stop file shown) answer
 IsServedBy q routes.CatchUp a answer b = HandlesCatchup (query_in q.query) a b answer
 IsServedBy q routes.Status a answer b = (jobs : ℕ) × HasCounted jobs × RespondsWithState a b (λ s. status_answer s jobs) answer

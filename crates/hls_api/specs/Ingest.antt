@@ -9,7 +9,8 @@ use Rattle.hls_media_laws.specs.{InitData.InitData, declared.facts.Facts.Facts, 
 use Rattle.hls_media_laws.specs.IsInitOrUnit.{IsInit, IsUnit}
 use Rattle.hls_core_laws.specs.declared.{event.Event.TheVariants.{Begin, Accept}, refusal.Refusal.TheVariants.{NoInit, Overlap, Memory}}
 use Rattle.hls_http.specs.{declared.framing.BodyFraming.TheVariants.Length, Bodies.{IsBroken, IsOpen}}
-use Rattle.hls_api.specs.{declared.ingest.IngestCounts.IngestCounts, Acts.{Act, AtMostOne, IsFailedSubmit, IsLook, RecordsLook, LooksAndFailsToSubmit, RecordsSubmit}}
+use Rattle.hls_api.specs.{declared.ingest.IngestCounts.IngestCounts, declared.encoder_readings.EncoderReadings.EncoderReadings}
+use Rattle.hls_api.specs.{Acts.{Act, AtMostOne, IsFailedSubmit, IsLook, RecordsLook, RecordsReading, LooksAndFailsToSubmit, RecordsSubmit}, Jumps.{is_accepted_by, is_ahead_in}}
 use Rattle.hls_api.specs.Types.{StreamFault, Refusal, State, Done, BodyFraming, BodyEnd, IngestStop, IngestTarget}
 use Rattle.hls_record.specs.RecordingData.{RecordingData}
 use Rattle.hls_mend.specs.InitSections.{is_same_to_decoders}
@@ -169,11 +170,23 @@ abbrev pub mended_for : MendSettings → InitData → ReadUnit → Option Record
 mended_for settings init u None = as_sent u
 mended_for settings init u (Some rec) = mended_unit settings init rec u
 
+-- whether a unit may be submitted, by a state: what is known of the encoders is read for one that is ahead of the channel, and for no other
+abbrev pub MaySubmit : MendSettings → ℕ → State → Facts → List Act → List Act → Bool → Type 0
+MaySubmit settings r s f before after may =
+    ((is_ahead_in settings.fill_us s f.start_us ≡ false) × (may ≡ true) × (after ≡ before))
+    ⊎ ((is_ahead_in settings.fill_us s f.start_us ≡ true) × ((readings : EncoderReadings) × RecordsReading before readings after × (may ≡ is_accepted_by s r readings)))
+
 -- a unit that starts at the end of the body's last one is submitted as it was sent; for any other one the state is looked at
 abbrev pub DecidesUnit : MendSettings → ℕ → Option ℕ → InitData → ReadUnit → List Act → Mended → List Act → Type 0
 DecidesUnit settings r end init u before mended after =
     ((end ≡ Some u.facts.start) × (mended ≡ as_sent u) × (after ≡ before))
-    ⊎ ((end ≢ Some u.facts.start) × ((state : State) × RecordsLook before state after × (mended ≡ mended_for settings init u (recording_of state r))))
+    ⊎ ((end ≢ Some u.facts.start)
+    × ((state : State) × (looked : List Act) × RecordsLook before state looked × MaySubmit settings r state u.facts looked after true × (mended ≡ mended_for settings init u (recording_of state r))))
+
+-- .. by which it may not be submitted
+abbrev pub RefusesAhead : MendSettings → ℕ → Option ℕ → Facts → List Act → List Act → Type 0
+RefusesAhead settings r end f before after =
+    (end ≢ Some f.start) × ((state : State) × (looked : List Act) × RecordsLook before state looked × MaySubmit settings r state f looked after false)
 
 -- a filler counts if it is new; one that the channel refuses is left out
 abbrev pub with_filler : Result Done Refusal → IngestCounts → IngestCounts
@@ -245,18 +258,27 @@ pub record FailsInFillers (settings : MendSettings) (r : ℕ) (x : Progress) (by
   pub fills : SubmitsFillers r (take count mended.fillers) x.counts seen filled before
   pub failed : AtMostOne IsFailedSubmit before after
 
--- no unit, or a unit before any init section
-abbrev pub RefusesUnitBefore : ℕ → Progress → List ℕ → StreamFault → List Act → Type 0
-RefusesUnitBefore r x bytes (Boxes fault) z = ⊥
-RefusesUnitBefore r x bytes (Media fault) z = (init : InitData) × FindsInit r x init z × (facts init bytes ≡ Err fault)
-RefusesUnitBefore r x bytes (Core refusal) z = IsTooEarly r x refusal z
-RefusesUnitBefore r x bytes AheadOfChannel z = ⊥
+-- a unit that is ahead of the channel while another rendition isn't
+pub record IsAhead (settings : MendSettings) (r : ℕ) (x : Progress) (bytes : List ℕ) (z : List Act) : Type 0 where
+  pub init : InitData
+  pub looked : List Act
+  pub finds : FindsInit r x init looked
+  pub facts : Facts
+  pub reads : IsUnit init bytes facts
+  pub refuses : RefusesAhead settings r x.end facts looked z
 
--- the unit itself isn't submitted: it is no unit, it comes before any init section, or an allocation failed
+-- no unit, a unit before any init section, or a unit that is ahead of the channel
+abbrev pub RefusesUnitBefore : MendSettings → ℕ → Progress → List ℕ → StreamFault → List Act → Type 0
+RefusesUnitBefore settings r x bytes (Boxes fault) z = ⊥
+RefusesUnitBefore settings r x bytes (Media fault) z = (init : InitData) × FindsInit r x init z × (facts init bytes ≡ Err fault)
+RefusesUnitBefore settings r x bytes (Core refusal) z = IsTooEarly r x refusal z
+RefusesUnitBefore settings r x bytes AheadOfChannel z = IsAhead settings r x bytes z
+
+-- the unit itself isn't submitted: it is no unit, it comes before any init section, it is ahead of the channel, or an allocation failed
 abbrev pub StopsBeforeUnit : MendSettings → ℕ → Progress → List ℕ → Progress → Result (Unit {0}) FeedFault → Type 0
 StopsBeforeUnit settings r x bytes y (Ok taken) = ⊥
 StopsBeforeUnit settings r x bytes y (Err feed_faults.Memory) = FailsToMend x.acts y.acts ⊎ FailsInFillers settings r x bytes y.acts
-StopsBeforeUnit settings r x bytes y (Err (feed_faults.Refused fault)) = RefusesUnitBefore r x bytes fault y.acts × (y.counts ≡ x.counts)
+StopsBeforeUnit settings r x bytes y (Err (feed_faults.Refused fault)) = RefusesUnitBefore settings r x bytes fault y.acts × (y.counts ≡ x.counts)
 
 abbrev pub MendsPart : MendSettings → ℕ → Progress → Part → Progress → Result (Unit {0}) FeedFault → Type 0
 MendsPart settings r x (parts.Init bytes) y result = MendsInit r x bytes y result

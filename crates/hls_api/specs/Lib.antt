@@ -7,6 +7,7 @@ pub mod Exchanges
 pub mod Ingest
 pub mod JobResponses
 pub mod JobTable
+pub mod Jumps
 pub mod Laws
 pub mod ActLinks
 pub mod OtherActors
@@ -15,6 +16,7 @@ pub mod Queries
 pub mod Responses
 pub mod Players
 pub mod Programmes
+pub mod SinceLists
 pub mod PathAnswers
 pub mod NamedSpans
 pub mod Routes

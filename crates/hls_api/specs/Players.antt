@@ -1,5 +1,5 @@
 -- The replies to players: playlists by paths, init sections, segments.
-use Rattle.std.specs.Prelude.{ℕ, ◌+◌, ◌∷◌, [], ◌++◌, cond, false, List, length, Option, Some, None, bytes_eq}
+use Rattle.std.specs.Prelude.{ℕ, ◌+◌, ◌∷◌, [], ◌++◌, cond, false, List, length, Option, Some, None, bytes_eq, option_map}
 use Rattle.hls_http.specs.declared.fault.HttpFault.TheVariants as http
 use Rattle.hls_http.specs.declared.response_parts.CachePolicy.{CachePolicy}
 use Rattle.hls_http.specs.declared.response_parts.CachePolicy.TheVariants.{Brief, Immutable, Revalidate, Unstated}
@@ -11,7 +11,9 @@ use Rattle.hls_core_laws.specs.Base.{bytes_before_base, run_text}
 use Rattle.hls_core.specs.Getters.{recording_of}
 use Rattle.hls_playlists_laws.specs.NamedUnits.{KeptUnits, Named, NoUnits, TrimmedUnits, named_units}
 use Rattle.hls_playlists.specs.declared.media_uris.MediaUris.{MediaUris}
-use Rattle.hls_playlists.specs.declared.media_uris.MediaUris.TheVariants.{Paths, Ranges}
+use Rattle.hls_playlists.specs.declared.media_uris.MediaUris.TheVariants.{Paths, PathsAbove, Ranges}
+use Rattle.hls_m3u8.specs.Lines.{media_text}
+use Rattle.hls_playlists.specs.RecentLists.{recent_list_of}
 use Rattle.hls_players_master.specs.Master.{players_master}
 use Rattle.hls_api.specs.Playlists.{live_text}
 use Rattle.hls_api.specs.Responses.{ResponseData, fault_answer, list_answer, media_bytes, part_answer, text_answer}
@@ -62,9 +64,14 @@ segment_answer s run r first last range =
 abbrev pub list_policy : MediaUris → CachePolicy → CachePolicy
 list_policy Ranges own = own
 list_policy Paths own = Brief
+list_policy PathsAbove own = Brief
 
 abbrev pub live_list_answer : MediaUris → State → ℕ → ResponseData
 live_list_answer uris s r = with_policy (list_policy uris Unstated) (list_answer (live_text uris s r))
+
+-- .. one that shows so many microseconds
+abbrev pub recent_list_answer : ℕ → State → ℕ → ResponseData
+recent_list_answer us s r = with_policy Brief (list_answer (option_map media_text (recent_list_of us s r)))
 
 -- not found before each rendition has its init section
 abbrev pub path_master_answer : State → ResponseData

@@ -7,10 +7,11 @@ use Rattle.hls_text.specs.Digits.{has_no_leading_zero, number_of_digits}
 use Rattle.hls_core_laws.specs.Base.{run_field}
 use Rattle.hls_http.specs.declared.method.Method.TheVariants.{Get, Head, Post, Put, Delete}
 use Rattle.hls_api.specs.Queries.{time_point_of}
-use Rattle.hls_api.specs.Types.{Method, Route, JobFile, ProgrammeFile, TimePoint, IngestTarget, ServedChannel}
+use Rattle.hls_api.specs.Types.{Method, Route, JobFile, ProgrammeFile, SinceFile, TimePoint, IngestTarget, ServedChannel}
 use Rattle.hls_api.specs.declared.route.Route.TheVariants as routes
 use Rattle.hls_api.specs.declared.route.JobFile.TheVariants as files
 use Rattle.hls_api.specs.declared.route.ProgrammeFile.TheVariants as programmes
+use Rattle.hls_api.specs.declared.route.SinceFile.TheVariants as sinces
 
 -- the texts before and after the first such byte
 abbrev pub position_of : ℕ → List ℕ → ℕ
@@ -126,24 +127,46 @@ programme_start_at count text (Some at) =
 abbrev pub programme_route : ℕ → List ℕ → Option Route
 programme_route count text = programme_start_at count text (position (λ b. b == 47) text)
 
--- what is in a folder: a programme, or the media of a run, whose name may be that folder's
+-- a file of the playlists that start at a time, by its name
+abbrev pub since_file_of : ℕ → List ℕ → Option SinceFile
+since_file_of count name = cond (bytes_eq name (codes "master.m3u8")) (Some sinces.Master) (numbered_route (codes ".m3u8") sinces.List count name)
+
+-- the time at which playlists start, and a file after the next `/`
+abbrev pub since_route_at : ℕ → List ℕ → Option ℕ → Option Route
+since_route_at count text None = None
+since_route_at count text (Some at) =
+    option_and_then (λ start. option_map (routes.Since start) (since_file_of count (drop (at + 1) text))) (time_point_of (take at text))
+
+abbrev pub since_route : ℕ → List ℕ → Option Route
+since_route count text = since_route_at count text (position (λ b. b == 47) text)
+
+-- what is in a folder: a programme, playlists that start at a time, or the media of a run, whose name may be that folder's
 abbrev pub media_route : ℕ → List ℕ → List ℕ → Option Route
 media_route count folder text =
-    cond (bytes_eq folder (codes "programme")) (option_or (programme_route count text) (run_route count folder text)) (run_route count folder text)
+    cond (bytes_eq folder (codes "programme")) (option_or (programme_route count text) (run_route count folder text))
+    (cond (bytes_eq folder (codes "since")) (option_or (since_route count text) (run_route count folder text)) (run_route count folder text))
+
+-- the live playlist by paths of a rendition, with as much as the channel shows
+abbrev pub path_list_by : Option ℕ → ℕ → Route
+path_list_by None rendition = routes.PathList rendition
+path_list_by (Some us) rendition = routes.RecentList rendition us
+
+abbrev pub path_list_route : ServedChannel → ℕ → Route
+path_list_route channel rendition = path_list_by channel.shown_us rendition
 
 -- a playlist, or what comes before and after the next `/`
-abbrev pub player_route_at : ℕ → List ℕ → Option ℕ → Option Route
-player_route_at count text None = numbered_route (codes ".m3u8") routes.PathList count text
-player_route_at count text (Some at) = media_route count (take at text) (drop (at + 1) text)
+abbrev pub player_route_at : ServedChannel → List ℕ → Option ℕ → Option Route
+player_route_at channel text None = numbered_route (codes ".m3u8") (path_list_route channel) channel.renditions text
+player_route_at channel text (Some at) = media_route channel.renditions (take at text) (drop (at + 1) text)
 
-abbrev pub player_route : ℕ → List ℕ → Option Route
-player_route count text =
+abbrev pub player_route : ServedChannel → List ℕ → Option Route
+player_route channel text =
     cond (bytes_eq text (codes "master.m3u8")) (Some routes.PathMaster)
-    (cond (bytes_eq text (codes "run")) (Some routes.Run) (player_route_at count text (position (λ b. b == 47) text)))
+    (cond (bytes_eq text (codes "run")) (Some routes.Run) (player_route_at channel text (position (λ b. b == 47) text)))
 
--- a channel of this number of renditions, whose units aren't mended
+-- a channel of this number of renditions, whose units aren't mended, and whose live playlists show all that the line keeps
 abbrev pub unmended_channel : ℕ → ServedChannel
-unmended_channel count = record { renditions = count; mending = None }
+unmended_channel count = record { renditions = count; mending = None; shown_us = None }
 
 -- an encoder's rendition, whose units are mended as the channel's are
 abbrev pub ingest_target : ServedChannel → ℕ → IngestTarget
@@ -164,7 +187,7 @@ own_folder_route channel path =
 -- a path with a folder
 abbrev pub folder_route : ServedChannel → List ℕ → Option Route
 folder_route channel path =
-    or_else (without_prefix (codes "/hls/") path) (player_route channel.renditions)
+    or_else (without_prefix (codes "/hls/") path) (player_route channel)
     (own_folder_route channel path)
 
 -- what a path names in a channel; paths aren't percent-decoded

@@ -5,4 +5,4 @@ pub use Rattle.hls_http.specs.declared.{framing.BodyFraming.BodyFraming, end.Bod
 pub use Rattle.hls_http.specs.declared.{fault.HttpFault.HttpFault, method.Method.Method, request_action.RequestAction.RequestAction, range_spec.RangeSpec.RangeSpec, response_parts.Status.Status}
 pub use Rattle.hls_catchup.specs.declared.{request.Request.Request, fault.JobFault.JobFault, jobs.job.Job.Job}
 pub use Rattle.hls_api.specs.declared.{ingest.IngestStop.IngestStop, catchup_query.CatchupQuery.CatchupQuery, catchup_query.QueryFault.QueryFault}
-pub use Rattle.hls_api.specs.declared.{route.Route.Route, route.JobFile.JobFile, route.ProgrammeFile.ProgrammeFile, catchup_query.TimePoint.TimePoint, route.IngestTarget.IngestTarget, route.ServedChannel.ServedChannel, catchup_params.CatchupParams.CatchupParams}
+pub use Rattle.hls_api.specs.declared.{route.Route.Route, route.JobFile.JobFile, route.ProgrammeFile.ProgrammeFile, route.SinceFile.SinceFile, catchup_query.TimePoint.TimePoint, route.IngestTarget.IngestTarget, route.ServedChannel.ServedChannel, catchup_params.CatchupParams.CatchupParams}

@@ -2,6 +2,7 @@
 
 ghost use Rattle.hls_api.specs.Laws.{AllowNamesMethods, JobFilesAreRight, JobLinesAreRight, RequestsAreRead};
 ghost use Rattle.hls_api.specs.PathAnswers.{ListedInitsAreAnswered, ListedPathsAreAnswered};
+ghost use Rattle.hls_api.specs.Jumps.{AllJumpIsAccepted, OneClockIsRefused};
 ghost use Rattle.hls_api.specs.ActLinks.{ActsAreLater, ActsExtendLinks, LinkedStatesFollow, LinksStay};
 
 /// Every reply of a session to a request for a job's file has a file of the right reply of some state to some request, or says that
@@ -47,4 +48,11 @@ pub fn linked_states_follow()
 pub fn listed_paths_are_answered()
     ensures segments { ListedPathsAreAnswered }
     ensures inits { ListedInitsAreAnswered }
+{}
+
+/// A unit that is ahead of the channel is refused exactly while another rendition continues.
+#[tactic(auto, using(crate::proofs::JumpSteps::one_clock_is_refused, crate::proofs::JumpSteps::all_jump_is_accepted))]
+pub fn one_clock_is_refused()
+    ensures refused { OneClockIsRefused }
+    ensures accepted { AllJumpIsAccepted }
 {}

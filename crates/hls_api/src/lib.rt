@@ -10,6 +10,7 @@
 
 pub mod catchup_params;
 pub mod catchup_query;
+pub mod encoder_readings;
 pub mod fault;
 pub mod ingest;
 mod job_responses;
@@ -26,6 +27,7 @@ mod response_body;
 mod response_content;
 pub mod route;
 pub mod route_path;
+mod since_responses;
 mod status;
 mod text_responses;
 
@@ -36,12 +38,14 @@ pub use media_responses::media_response;
 pub use player_responses::{SegmentSpan, init_response, segment_response};
 pub use playlist_cache::PlaylistCache;
 pub use playlist_responses::{
-    live_master_response, live_playlist_response, path_master_response, run_response,
+    live_master_response, live_playlist_response, path_master_response, recent_playlist_response,
+    run_response,
 };
 pub use programme_responses::programme_response;
 pub use query::{make_request, read_query, resolve_query};
 pub use response::{Response, into_send_buffer};
 pub use response_body::ResponseBody;
+pub use since_responses::since_response;
 pub use status::{metrics_response, status_response};
 pub use text_responses::{
     fault_response, finish_response, ingest_refused_response, ingested_response,

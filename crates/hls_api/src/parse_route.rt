@@ -1,13 +1,14 @@
 //! Parses paths.
 
 ghost use Rattle.std.specs.Prelude.{◌≡◌, ◌<◌, ◌+◌, ◌^◌, ◌==◌, length, option_map, position, IfSome};
+ghost use Rattle.std.specs.Option.{option_or};
 ghost use Rattle.hls_api.specs.Routes.{route_of};
 ghost use Rattle.hls_api.specs.Exchanges as heard;
 ghost use Rattle.hls_api.specs.Routes as spec;
 
 use crate::catchup_query::TimePoint;
 use crate::query::parse_time_point;
-use crate::route::{IngestTarget, JobFile, ProgrammeFile, Route, ServedChannel};
+use crate::route::{IngestTarget, JobFile, ProgrammeFile, Route, ServedChannel, SinceFile};
 use hls_core::base::Base;
 use hls_http::method::Method;
 use hls_text::{MAX_DIGITS, are_digits, has_no_leading_zero, parse_digits};
@@ -171,22 +172,63 @@ fn parse_programme_route(count: usize, text: &[u8]) -> Option<Route>
     parse_programme_end(count, start, &text[slash + 1..])
 }
 
-/// Parses what is in a folder below `/hls/`: a programme, or the media of a run.
+/// Parses the name of a file of the playlists that start at a time.
+fn parse_since_file(count: usize, name: &[u8]) -> Option<SinceFile>
+    ensures { result ≡ spec.since_file_of count name.now }
+{
+    if name == b"master.m3u8".as_slice() {
+        return Some(SinceFile::Master);
+    }
+    Some(SinceFile::List(parse_rendition(count, strip_back(b".m3u8", name)?)?))
+}
+
+/// Parses the time at which playlists start, and the file.
+fn parse_since_route(count: usize, text: &[u8]) -> Option<Route>
+    ensures { result ≡ spec.since_route count text.now }
+{
+    let slash = find_slash(text)?;
+    let start = parse_time_point(&text[..slash])?;
+    Some(Route::Since(start, parse_since_file(count, &text[slash + 1..])?))
+}
+
+/// Returns a route, or if there is none what a path of the media of a run names.
+fn or_run_route(route: Option<Route>, count: usize, folder: &[u8], text: &[u8]) -> Option<Route>
+    ensures { result ≡ option_or route (spec.run_route count folder.now text.now) }
+{
+    match route {
+        Some(route) => Some(route),
+        None => parse_run_route(count, folder, text),
+    }
+}
+
+/// Parses what is in a folder below `/hls/`: a programme, playlists that start at a time, or the media of a run.
 fn parse_media_route(count: usize, folder: &[u8], text: &[u8]) -> Option<Route>
     ensures { result ≡ spec.media_route count folder.now text.now }
 {
     if folder == b"programme".as_slice() {
-        if let Some(route) = parse_programme_route(count, text) {
-            return Some(route);
-        }
+        return or_run_route(parse_programme_route(count, text), count, folder, text);
+    }
+    if folder == b"since".as_slice() {
+        return or_run_route(parse_since_route(count, text), count, folder, text);
     }
     parse_run_route(count, folder, text)
 }
 
-/// Parses what players load: a playlist by paths, the run, a programme, or the media of a run.
-fn parse_player_route(count: usize, text: &[u8]) -> Option<Route>
-    ensures { result ≡ spec.player_route count text.now }
+/// Returns the live playlist by paths of a rendition, with as much as the channel shows.
+fn path_list_route(channel: ServedChannel, rendition: usize) -> Route
+    ensures { result ≡ spec.path_list_route channel rendition }
 {
+    match channel.shown_us {
+        Some(us) => Route::RecentList(rendition, us),
+        None => Route::PathList(rendition),
+    }
+}
+
+/// Parses what players load: a playlist by paths, the run, a programme, or the media of a run.
+fn parse_player_route(channel: ServedChannel, text: &[u8]) -> Option<Route>
+    ensures { result ≡ spec.player_route channel text.now }
+{
+    let count = channel.renditions;
     if text == b"master.m3u8".as_slice() {
         return Some(Route::PathMaster);
     }
@@ -195,7 +237,10 @@ fn parse_player_route(count: usize, text: &[u8]) -> Option<Route>
     }
     match find_slash(text) {
         Some(slash) => parse_media_route(count, &text[..slash], &text[slash + 1..]),
-        None => Some(Route::PathList(parse_rendition(count, strip_back(b".m3u8", text)?)?)),
+        None => {
+            let rendition = parse_rendition(count, strip_back(b".m3u8", text)?)?;
+            Some(path_list_route(channel, rendition))
+        }
     }
 }
 
@@ -204,7 +249,7 @@ fn parse_folder_route(channel: ServedChannel, path: &[u8]) -> Option<Route>
     ensures { result ≡ spec.folder_route channel path.now }
 {
     if let Some(text) = strip_front(b"/hls/", path) {
-        return parse_player_route(channel.renditions, text);
+        return parse_player_route(channel, text);
     }
     parse_own_folder_route(channel, path)
 }

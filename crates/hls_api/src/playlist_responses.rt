@@ -3,7 +3,7 @@
 ghost use Rattle.std.specs.Prelude.{◌≡◌, IfOk, option_map};
 ghost use Rattle.hls_api.specs.{Responses.playlist_answer, Playlists.live_master_text, ResponseContents.content_of};
 ghost use Rattle.hls_api.specs.Responses as spec;
-ghost use Rattle.hls_api.specs.Players.{list_policy, live_list_answer, path_master_answer, run_answer, with_policy};
+ghost use Rattle.hls_api.specs.Players.{list_policy, live_list_answer, path_master_answer, recent_list_answer, run_answer, with_policy};
 
 use crate::response::Response;
 use crate::response_content::ResponseContent;
@@ -13,6 +13,7 @@ use hls_http::fault::HttpFault;
 use hls_http::response_parts::{CachePolicy, ContentType, ExtraField, Status};
 use hls_m3u8::write_master;
 use hls_players_master::players_master;
+use hls_playlists::recent_list::write_recent_list;
 use hls_playlists::{LivePlaylistWriter, MediaUris, live_master};
 use std::alloc::{AllocError, Global};
 use std::sync::Arc;
@@ -64,8 +65,24 @@ pub(crate) fn with_list_policy(response: Response, uris: MediaUris) -> Response
 {
     match uris {
         MediaUris::Ranges => response,
-        MediaUris::Paths => response.with_policy(CachePolicy::Brief),
+        MediaUris::Paths | MediaUris::PathsAbove => response.with_policy(CachePolicy::Brief),
     }
+}
+
+/// The live playlist by paths of a rendition that shows so many microseconds; 404 before a segment was closed. It isn't cached: it is short.
+pub fn recent_playlist_response(
+    alloc: Global,
+    snapshot: Arc<Snapshot>,
+    rendition: usize,
+    us: u64,
+) -> Result<Response, AllocError>
+    ensures { IfOk result (λ a. a ≡ recent_list_answer us snapshot.value rendition) }
+{
+    let made = match write_recent_list(alloc, snapshot, rendition, us)? {
+        Some(text) => playlist_response(ResponseContent::from_playlist(alloc, text)?),
+        None => fault_response(alloc, HttpFault::NotFound)?,
+    };
+    Ok(made.with_policy(CachePolicy::Brief))
 }
 
 /// The master playlist of the playlists by paths; 404 before each rendition has its init section.

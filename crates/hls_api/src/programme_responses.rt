@@ -49,7 +49,7 @@ fn programme_file_response(
 }
 
 /// Whether some place was at or before a time, in microseconds, whatever was trimmed since.
-fn has_begun_by(snapshot: &Snapshot, us: u64) -> bool
+pub(crate) fn has_begun_by(snapshot: &Snapshot, us: u64) -> bool
     ensures { result ≡ spec.has_begun_by snapshot.now us }
 {
     match snapshot.places().get(0) {

@@ -64,7 +64,7 @@ fn us_since_epoch(epoch: i64, instant: i64) -> Result<u64, QueryFault>
 }
 
 /// Returns the time of a moment, in microseconds from time 0.
-fn resolve_time(epoch: Option<i64>, moment: TimePoint) -> Result<u64, QueryFault>
+pub(crate) fn resolve_time(epoch: Option<i64>, moment: TimePoint) -> Result<u64, QueryFault>
     ensures { result ≡ time_of epoch moment }
 {
     match (moment, epoch) {

@@ -3,11 +3,13 @@
 use crate::catchup_query::TimePoint;
 use hls_mend_laws::settings::MendSettings;
 
-/// What paths are read for: how many renditions the channel has, and how far their units are mended, if they are.
+/// What paths are read for: how many renditions the channel has, how far their units are mended, if they are, and how many microseconds
+/// the live playlists by paths show, if it isn't all that the line keeps.
 #[derive(Clone, Copy, Drop)]
 pub struct ServedChannel {
     pub renditions: usize,
     pub mending: Option<MendSettings>,
+    pub shown_us: Option<u64>,
 }
 
 /// What an encoder's body is for: a rendition, and how far its units are mended, if they are.
@@ -44,6 +46,8 @@ pub enum Route {
     PathMaster,
     /// `/hls/<r>.m3u8`.
     PathList(usize),
+    /// The same path, if it shows so many microseconds.
+    RecentList(usize, u64),
     /// `/hls/run`.
     Run,
     /// `/hls/<run>/<r>/init.mp4`. The run's name is filled up with zero bytes.
@@ -52,6 +56,17 @@ pub enum Route {
     Segment([u8; 16], usize, u64, u64),
     /// `/hls/programme/<from>/<to>/` and a file: the programme's start, its end, and the file.
     Programme(TimePoint, TimePoint, ProgrammeFile),
+    /// `/hls/since/<from>/` and a file: the time, and the file.
+    Since(TimePoint, SinceFile),
+}
+
+/// A file of the playlists that start at a time.
+#[derive(Clone, Copy, Debug, PartialEq, Eq, Drop)]
+pub enum SinceFile {
+    /// `master.m3u8`.
+    Master,
+    /// `<r>.m3u8`.
+    List(usize),
 }
 
 /// A file of a programme by its address.

@@ -1,7 +1,7 @@
 //! Writes paths, as [`parse_route`](crate::parse_route::parse_route) reads them.
 
 use crate::catchup_query::TimePoint;
-use crate::route::{JobFile, ProgrammeFile, Route};
+use crate::route::{JobFile, ProgrammeFile, Route, SinceFile};
 use std::fmt::{self, Display, Formatter, Write};
 
 /// The path of a route; `-` for a path that named none.
@@ -28,7 +28,7 @@ impl Display for RoutePath {
             Some(Route::Status) => f.write_str("/status"),
             Some(Route::Metrics) => f.write_str("/metrics"),
             Some(Route::PathMaster) => f.write_str("/hls/master.m3u8"),
-            Some(Route::PathList(n)) => write!(f, "/hls/{n}.m3u8"),
+            Some(Route::PathList(n) | Route::RecentList(n, _)) => write!(f, "/hls/{n}.m3u8"),
             Some(Route::Run) => f.write_str("/hls/run"),
             Some(Route::InitSection(run, n)) => {
                 f.write_str("/hls/")?;
@@ -45,6 +45,11 @@ impl Display for RoutePath {
                 write_time(f, start)?;
                 write_time(f, stop)?;
                 write_file(f, file)
+            }
+            Some(Route::Since(start, file)) => {
+                f.write_str("/hls/since/")?;
+                write_time(f, start)?;
+                write_since_file(f, file)
             }
         }
     }
@@ -64,6 +69,14 @@ fn write_file<W: Write>(f: &mut Formatter<W>, file: ProgrammeFile) -> fmt::Resul
         ProgrammeFile::Master => f.write_str("master.m3u8"),
         ProgrammeFile::List(n) => write!(f, "{n}.m3u8"),
         ProgrammeFile::Certificate => f.write_str("certificate.txt"),
+    }
+}
+
+/// Writes the name of a file of the playlists that start at a time.
+fn write_since_file<W: Write>(f: &mut Formatter<W>, file: SinceFile) -> fmt::Result {
+    match file {
+        SinceFile::Master => f.write_str("master.m3u8"),
+        SinceFile::List(n) => write!(f, "{n}.m3u8"),
     }
 }
 

@@ -3,8 +3,8 @@
 /// What each name means and what to change, in the order of the names. The last line has no line feed.
 pub const MEANINGS: &str = "\
 AfterRecording: the stop is behind the last place, and all renditions are finished. Ask for a stop up to the recording's end.
-AheadOfChannel: with serve --mend, a unit begins more than --fill after the newest end of all renditions while others go on: the \
-clock of its encoder is wrong. Set the clock; a channel whose encoders all jump goes on by itself.
+AheadOfChannel: with serve --mend, a unit begins more than --fill after the newest end of all renditions while others continue: the \
+clock of its encoder is wrong. Set the clock; a channel whose encoders all jump continues by itself, after a discontinuity.
 BadBox: a box of an init or a unit isn't as ISO/IEC 14496-12 has it: its children don't fill it, a field lies past its end, \
 a box is missing or stands twice, its version isn't known. Send the stream just as the encoder wrote it; if it was, change the encoder.
 BadCharge: the charge for a segment is above 3600000000. Give 0 to that, in microseconds, or none.
@@ -47,8 +47,8 @@ Full: a recording would pass 2^40 bytes, or a store is full. Start another chann
 Gone: a byte of what was asked for was trimmed. Read the playlist anew, or keep more (--keep).
 HeadTooLarge: the head of a request has more than 16384 bytes or 64 fields. Send fewer or shorter ones; cookies are the most likely.
 InitChanged: another init section came than the rendition has: codec, size or timescale changed, or another encoder sends. \
-With serve --mend, one that differs only in bit rates, times, names and metadata is a repeat. Send any other stream to another \
-rendition or channel.
+With serve --mend, one that differs only in bit rates, times, names and metadata is a repeat. Give the encoder its old settings; for \
+new ones restart the channel with its encoders: hls_origin@NAME's lists continue after a discontinuity, with an empty recording.
 LedgerFull: the log has 4194304 entries, and takes no more. Start another process and point the encoders to it; fewer, longer \
 fragments fill it later.
 MdatAlone: an mdat comes without a moof before it: the file isn't fragmented, or holds samples before its first moof. Write it \

@@ -16,7 +16,7 @@ use Rattle.hls_http.specs.declared.end.BodyEnd.TheVariants as bodies
 use Rattle.hls_api.specs.declared.ingest.IngestStop.TheVariants as ingest_stops
 use Rattle.hls_connection.specs.declared.receive.BodyTarget.TheVariants as targets
 
--- what is read behind a head is heard as its plan says
+-- what follows a head is read as its plan says
 exchange : {channel : ServedChannel} {stream first : List ℕ} {context : RequestContext} {action : BodyFraming → RequestAction} {last : BodyFraming} {unread : List ℕ} (at : HasBody channel stream first context action last unread) (acts : List Act) (due : DueResponse) (later : List ℕ)
     → HandlesBy (action at.body) (request_of channel at.head) (at.following ++ later) acts due (unread ++ later) → IsExchange channel (stream ++ later) acts due (unread ++ later)
 exchange {channel} {unread} at acts due later follows = record {
@@ -58,7 +58,7 @@ replies_ingested {channel} {r} {unread} {result} x ingested =
     })
     ))
 
--- an encoder's alone is refused for its content, or ends for want of memory
+-- only an encoder's body is refused for its content, or ended by an allocation failure
 pub refused_ingest : {channel : ServedChannel} {stream first : List ℕ} {r : ReceivingBody} {unread : List ℕ} (target : BodyTarget) (fault : StreamFault) → IsReceived channel stream first r target unread (Err (ingest_stops.Refused fault))
     → (encoder : IngestTarget) × (is_mended_into target ≡ is_some encoder.mending) × IsIngested channel stream first r encoder unread (Err (ingest_stops.Refused fault))
 refused_ingest (targets.Nothing room) fault x = absurd x

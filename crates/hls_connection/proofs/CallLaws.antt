@@ -21,7 +21,7 @@ use Rattle.hls_http.specs.declared.fault.HttpFault.TheVariants as faults
 pub replies_by : {P Q : DueResponse → Type 0} {first other : List ℕ} {acts : List Act} {step : Transition} → other ≡ first → ((due : DueResponse) → P due → Q due) → RespondsWith P first acts step → RespondsWith Q other acts step
 replies_by {step} is map r = record { due = r.due; is = map r.due r.is; text_is = r.text_is ∙ ap (λ (t : List ℕ). t ++ step.output) (sym is); step_is = r.step_is }
 
--- to want of memory, whatever was made
+-- after an allocation failure the response is the fixed one, whatever was made
 pub memory_replies : {E : Type 0} (first : List ℕ) (response : Result ResponseData E) (closing head : Bool) {acts : List Act} {step : Transition} → step ≡ respond_step (out_of_memory_response head) true false acts
     → RespondsWith (IsDueFor first response closing head) first acts step
 memory_replies first (Ok a) closing head is = rw is (record { due = memory_due first head; is = inr refl; text_is = refl; step_is = refl })

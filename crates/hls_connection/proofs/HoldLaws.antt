@@ -69,7 +69,7 @@ module _ {channel : ServedChannel} {old : ConnectionState} {h : History} (x : Is
     stage_is = stage_is;
   }
 
-  -- one is, and the connection goes on
+  -- one is, and the connection continues
   goes_on : (due : List ℕ) (success : Bool) → due ≡ x.text ++ text
       → ((later : List ℕ) → IsExchange channel (x.rest ++ later) acts (record { text = due; closing = false; success = success }) (unread ++ later)) → IsConsistent channel states.Head after
   goes_on due success is exchange =
@@ -144,7 +144,7 @@ head_refused {channel} {h} {step} fault x empty refuses r =
     subst (λ (s : Transition). IsConsistent channel s.state (record h { acts = h.acts ++ s.acts; pending = s.output })) (sym r.step_is)
     (rw closing (ends_by x x.stage_is.1 empty [] step.output h.unread r.due closing is (inr (refused, refl, x.stage_is.0))))
 
--- no head stands at the front yet
+-- no head is at the front yet
 pub head_waits : (empty ended : Bool) (channel : ServedChannel) (stream text unread : List ℕ) → (length unread == 0) ≡ empty → IsUnfinished unread
     → IsBetween stream [] text unread → IsInState (awaited_state empty ended) channel ended stream [] text unread
 head_waits empty false channel stream text unread is unfinished s = s
@@ -165,7 +165,7 @@ waits empty false unread unfinished = inr (refl, unfinished.short, inr unfinishe
 waits true true unread unfinished = inl tt
 waits false true unread unfinished = inl tt
 
--- ---- behind a head
+-- ---- after a head
 
 -- fewer bytes are unread
 pub head_takes : (text : List ℕ) (head : RequestHead) (rest : List ℕ) → ReadsLimitedHead text head rest → length rest < length text
@@ -268,7 +268,7 @@ pub cuts : {channel : ServedChannel} {old new : ReceivingBody} {h : History} (un
     → IsConsistent channel (states.Ended ends.CutShort) (record h { unread = unread; acts = h.acts ++ new.taken.acts; pending = [] })
 cuts {channel} {old} {new} unread x empty ended w = stays new.taken.acts unread x x.stage_is.1 empty (ended, inr (record { within = within_body w.0; unfinished = w.1 }))
 
--- ---- what holds, in the words of connections
+-- ---- what holds, in the terms of connections
 
 stands_as : (state : ConnectionState) (channel : ServedChannel) (ended : Bool) (stream : List ℕ) (acts : List Act) (text unread : List ℕ) → IsInState state channel ended stream acts text unread
     → IsAtStage (stage_of state) channel ended stream (acts ++ current_acts state) text unread
@@ -360,7 +360,7 @@ stands_more (states.Write w) channel ended now stream acts text unread more goin
     (record { last = s.0.last; discarded = record { at = body_more more d.at; route_is = d.route_is; discarded = λ later. d.discarded later }; answers = s.0.answers }, s.1)
 stands_more (states.Ended end) channel ended now stream acts text unread more going s = absurd going
 
--- so much is received, and perhaps the end
+-- bytes are received, and perhaps the end of the input
 pub holds_more : {channel : ServedChannel} {state : ConnectionState} {h : History} (more : List ℕ) (ended : Bool) → IsNotOverIn state → IsConsistent channel state h
     → IsConsistent channel state (record h { received = h.received ++ more; ended = ended; unread = h.unread ++ more })
 holds_more {channel} {state} {h} more ended going x = record {
@@ -374,7 +374,7 @@ holds_more {channel} {state} {h} more ended going x = record {
   stage_is = stands_more state channel h.ended ended x.rest x.acts x.text h.unread more going x.stage_is;
 }
 
--- so much of what waits was handed out
+-- some of the waiting bytes were sent
 pub holds_sent : {channel : ServedChannel} {state : ConnectionState} {h : History} (handed_out waits : List ℕ) → h.pending ≡ handed_out ++ waits → IsConsistent channel state h
     → IsConsistent channel state (record h { sent = h.sent ++ handed_out; pending = waits })
 holds_sent {channel} {state} {h} handed_out waits is x = record {
@@ -390,6 +390,6 @@ holds_sent {channel} {state} {h} handed_out waits is x = record {
 
 -- ---- what was asked
 
--- one request's acts more
+-- the acts for one more request
 pub asked_more : {B : Type 0} (old new : List (List Act × B)) (acts : List Act) (u : B) → new ≡ old ++ (acts, u) ∷ [] → flat_map (λ x. x.0) new ≡ flat_map (λ x. x.0) old ++ acts
 asked_more old new acts u is = ap (flat_map (λ x. x.0)) is ∙ flat_push (λ x. x.0) old (acts, u)

@@ -1,18 +1,18 @@
 -- What is submitted for the parts of a body whose units are mended.
-use Rattle.std.proofs.Common.{◌≡◌, ◌∙◌, ◌<◌, ◌≤◌, ◌+◌, ◌^◌, ℕ, Some, None, Option, Result, Ok, Err, inl, inr, List, [], ◌∷◌, ◌++◌, All, length, get_or, take, refl, sym, subst, ap}
+use Rattle.std.proofs.Common.{true, false, ◌≡◌, ◌≢◌, ◌∙◌, ◌<◌, ◌≤◌, ◌+◌, ◌^◌, ℕ, Some, None, Option, Result, Ok, Err, inl, inr, List, [], ◌∷◌, ◌++◌, All, length, get_or, take, refl, sym, subst, ap}
 use Rattle.std.proofs.lemmas.{List.{take_all, take_more}, List.Elements.All-get_or}
 use Rattle.hls_media_laws.specs.{InitData.InitData, declared.facts.Facts.Facts, declared.fault.MediaFault.MediaFault, IsInitOrUnit.{IsUnit, UnitsAreBounded}, UnitFacts.facts}
-use Rattle.hls_core_laws.specs.{declared.event.Event.TheVariants.Accept, Moves.IsFittingAsSeen}
+use Rattle.hls_core_laws.specs.{declared.event.Event.TheVariants.Accept, Moves.IsFittingAsSeen, State.State}
 use Rattle.hls_core.specs.declared.feed_fault.FeedFault.{FeedFault}
 use Rattle.hls_core.specs.declared.feed_fault.StreamFault.{StreamFault}
-use Rattle.hls_core.specs.declared.feed_fault.StreamFault.TheVariants.{Media}
+use Rattle.hls_core.specs.declared.feed_fault.StreamFault.TheVariants.{AheadOfChannel, Media}
 use Rattle.hls_mend_laws.specs.declared.settings.MendSettings.{MendSettings}
 use Rattle.hls_mend.specs.{MendedUnits.mended_view, declared.mended.MendedUnit.MendedUnit, declared.mended.ReadUnit.ReadUnit}
 use Rattle.hls_api.specs.declared.ingest.IngestCounts.{IngestCounts}
-use Rattle.hls_api.specs.Acts.{Act, AtMostOne, IsLook, Knowledge, Looked}
-use Rattle.hls_api.specs.Ingest.{ChoosesInit, DecidesUnit, FindsInit, HandlesPart, MendsInit, MendsPart, Progress, RefusesUnitBefore, StopsBeforeUnit, SubmitsFiller, SubmitsFillers, end_after}
+use Rattle.hls_api.specs.Acts.{Act, AtMostOne, IsLook, Knowledge, Looked, RecordsLook}
+use Rattle.hls_api.specs.Ingest.{ChoosesInit, DecidesUnit, FindsInit, HandlesPart, MaySubmit, MendsInit, MendsPart, Progress, RefusesAhead, RefusesUnitBefore, StopsBeforeUnit, SubmitsFiller, SubmitsFillers, end_after}
 use Rattle.hls_connection.{specs.IngestStates.{FindsInitOrFails, IsUsable}, proofs.PassLaws.{fits_unit, found_init}}
-use Rattle.hls_connection.specs.MendingStates.{ChoosesInitOrFails, DecidesUnitOrFails, HasReadUnit, IsPrepared, PreparesOrStops, SubmitsFillerOrFails, SubmitsFillersOrFail, SubmitsMended, with_acts, with_counts}
+use Rattle.hls_connection.specs.MendingStates.{ChoosesInitOrFails, DecidesUnitOrFails, HasReadUnit, IsPrepared, MakesMended, PreparesOrStops, SubmitsFillerOrFails, SubmitsFillersOrFail, SubmitsMended, with_acts, with_counts}
 use Rattle.hls_boxes.specs.declared.part.Part.TheVariants as parts
 use Rattle.hls_core.specs.declared.feed_fault.FeedFault.TheVariants as feed_faults
 
@@ -36,13 +36,29 @@ mends_init r x z y bytes chosen (Err feed_faults.Memory) same chooses handles en
 
 -- no init section was found
 pub stops_finding : (settings : MendSettings) (r : ℕ) (x y : Progress) (bytes : List ℕ) (fault : FeedFault) → FindsInitOrFails r x y (Err fault) → StopsBeforeUnit settings r x bytes y (Err fault)
-stops_finding settings r x y bytes (feed_faults.Refused fault) (counts, is, early) = (subst (λ (f : StreamFault). RefusesUnitBefore r x bytes f y.acts) (sym is) early, counts)
+stops_finding settings r x y bytes (feed_faults.Refused fault) (counts, is, early) = (subst (λ (f : StreamFault). RefusesUnitBefore settings r x bytes f y.acts) (sym is) early, counts)
 stops_finding settings r x y bytes feed_faults.Memory looks = inl (y.acts, looks, (y.acts, inl refl, inl refl))
 
 -- the bytes are no unit
 pub stops_reading : (settings : MendSettings) (r : ℕ) (x y : Progress) (bytes : List ℕ) (init : InitData) (fault : MediaFault) → FindsInitOrFails r x y (Ok tt) → y.init ≡ Some init → facts init bytes ≡ Err fault
     → StopsBeforeUnit settings r x bytes y (Err (feed_faults.Refused (Media fault)))
 stops_reading settings r x y bytes init fault found there unread = ((init, found_init r x y init found there, unread), found.0)
+
+-- the state was looked at, and an allocation failed
+pub fails_to_decide : (settings : MendSettings) (r : ℕ) (x y : Progress) (u : ReadUnit) (s : State) (fault : FeedFault) → MakesMended settings r x.init s u (Err fault) → RecordsLook x.acts s y.acts
+    → DecidesUnitOrFails settings r x u y (Err fault)
+fails_to_decide settings r x y u s (feed_faults.Refused fault) fails looks = absurd fails
+fails_to_decide settings r x y u s feed_faults.Memory fails looks = inr (Looked s, tt, looks)
+
+-- .. and the unit may be submitted, as mending makes it
+pub decides_submit : (settings : MendSettings) (r : ℕ) (x y : Progress) (u : ReadUnit) (s : State) (looked : List Act) (m : MendedUnit) → x.end ≢ Some u.facts.start → RecordsLook x.acts s looked
+    → MakesMended settings r x.init s u (Ok m) → MaySubmit settings r s u.facts looked y.acts true → y ≡ with_acts x y.acts → DecidesUnitOrFails settings r x u y (Ok m)
+decides_submit settings r x y u s looked m off looks makes may same = (same, λ init is. inr (off, (s, looked, looks, may, makes init is)))
+
+-- .. or it may not
+pub decides_refuse : (settings : MendSettings) (r : ℕ) (x y : Progress) (u : ReadUnit) (s : State) (looked : List Act) → x.end ≢ Some u.facts.start → RecordsLook x.acts s looked
+    → MaySubmit settings r s u.facts looked y.acts false → y ≡ with_acts x y.acts → DecidesUnitOrFails settings r x u y (Err (feed_faults.Refused AheadOfChannel))
+decides_refuse settings r x y u s looked off looks may same = (refl, same, (off, (s, looked, looks, may)))
 
 -- the init section was looked up by at most one look
 found_looked : (r : ℕ) (x : Progress) (init : InitData) (z : List Act) → FindsInit r x init z → AtMostOne IsLook x.acts z
@@ -65,7 +81,17 @@ prepared settings r x z y bytes init f (Ok m) found end there unit (same, decide
   counts = ap (λ (p : Progress). p.counts) same ∙ found.0;
   end = ap (λ (p : Progress). p.end) same ∙ end;
 }
-prepared settings r x z y bytes init f (Err (feed_faults.Refused fault)) found end there unit fails = absurd fails
+prepared settings r x z y bytes init f (Err (feed_faults.Refused fault)) found end there unit (is, same, refuses) = (
+  subst (λ (q : StreamFault). RefusesUnitBefore settings r x bytes q y.acts) (sym is) (record {
+    init = init;
+    looked = z.acts;
+    finds = found_init r x z init found there;
+    facts = f;
+    reads = unit;
+    refuses = subst (λ (e : Option ℕ). RefusesAhead settings r e f z.acts y.acts) end refuses;
+  }),
+  ap (λ (p : Progress). p.counts) same ∙ found.0,
+)
 prepared settings r x z y bytes init f (Err feed_faults.Memory) found end there unit looks = inl (z.acts, found_looked r x init z.acts (found_init r x z init found there), (y.acts, looks, inl refl))
 
 -- its facts are those under the rendition's init section
@@ -80,7 +106,7 @@ read_unit_ends bounded (Some init) u reads = (bounded init u.bytes u.facts reads
 
 -- ---- fillers
 
--- nothing but acts and counts changed, and again nothing else
+-- if two changes in a row are of acts and counts alone, so is both together
 pub counts_on : (x z y : Progress) → z ≡ with_counts x z.counts z.acts → y ≡ with_counts z y.counts y.acts → y ≡ with_counts x y.counts y.acts
 counts_on x z y first second = second ∙ ap (λ (p : Progress). with_counts p y.counts y.acts) first
 

@@ -1,4 +1,4 @@
--- What a keeper has seen, from one act to the next, and what its acts come to.
+-- What a keeper has seen, from one act to the next, and the result of its acts.
 use Rattle.std.specs.{Global.Global, declared.sync.Arc.Arc}
 use Rattle.std.proofs.Common.{◌≡◌, ℕ, Some, Option, IfOk, Result, Ok, Err, inl, inr, List, [], ◌∷◌, ◌++◌, refl, sym, subst, ap, ◌∙◌, append_assoc}
 use Rattle.hls_core_laws.specs.{declared.event.Event.Event, declared.event.Event.TheVariants.Accept, declared.event.Event.TheVariants.Begin, declared.refusal.Refusal.Refusal}
@@ -59,6 +59,6 @@ unit_refused r x z y bytes init f refusals.Memory found there is counts s = unit
 unit_refused r x z y bytes init f q found there is counts s =
     (inr (record { init = init; looked = z.acts; finds = found_init r x z init found there; facts = f; reads = is; not_memory = λ e. cc; submits = s }), counts ∙ found.0)
 
--- what was asked behind something else
+-- acts that follow other acts
 pub acted_behind : (m : OtherActors) (front : List Act) (a b : Knowledge) (before : List Act) {after all : List Act} → all ≡ front ++ after → ActsExtend m a before b after → ActsExtend m a (front ++ before) b all
 acted_behind m front a b before is (acts, grown, chain) = (acts, is ∙ ap (λ (t : List Act). front ++ t) grown ∙ sym (append_assoc front before acts), chain)

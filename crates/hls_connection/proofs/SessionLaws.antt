@@ -17,16 +17,16 @@ use Rattle.hls_connection.specs.declared.state.ConnectionState.TheVariants as st
 
 -- ---- known bytes
 
--- what is left of an input of which so much was read
+-- the rest of an input after these bytes were read
 left_of : (input more : List ℕ) (left : Option (List ℕ)) → Consumes (Some input) left more → (later : List ℕ) × (left ≡ Some later) × (input ≡ more ++ later)
 left_of input more None consumes = absurd consumes
 left_of input more (Some later) consumes = (later, refl, consumes)
 
--- what waits is a chunk, and then what is behind it
+-- the waiting bytes are a chunk and the rest
 chunk_first : (waiting chunk : List ℕ) → IsChunkOf chunk waiting → waiting ≡ chunk ++ drop (length chunk) waiting
 chunk_first waiting chunk is = sym (take-append-drop (length chunk) waiting) ∙ ap (λ xs. xs ++ drop (length chunk) waiting) is.front
 
--- ---- it goes on
+-- ---- it continues
 
 -- from its beginning, where nothing came but what was held
 pub led_first : (between : OtherActors) (m : SessionMoment) (renditions : ℕ) (notes : ConnectionNotes) → IsFresh notes → m.at ≡ trace_after_read (trace_at (idle_machine (unmended_channel renditions) notes) []) m.at.past.unread false → IsState m.known.seen
@@ -65,7 +65,7 @@ led_hears {between} {first} {m} more ended {left} {reads} is going consumes at_e
       quiet = (same ∙ x.quiet.0, x.quiet.1);
     })
 
--- so much of what waits was handed out, and written
+-- some of the waiting bytes were taken and written
 led_sent : {between : OtherActors} {first m : SessionMoment} (write_log waits : List ℕ) {contents : Option (List ℕ)} {writes : ℕ} → m.at.past.pending ≡ write_log ++ waits
     → ((held : List ℕ) → m.contents ≡ Some held → contents ≡ Some (held ++ write_log)) → writes ≡ m.writes → HasRun between first m
     → HasRun between first (record m { at = record m.at { past = record m.at.past { pending = waits; sent = m.at.past.sent ++ write_log } }; contents = contents; writes = writes })
@@ -109,7 +109,7 @@ pub ended_unread : {between : OtherActors} {first m : SessionMoment} {reads : �
 ended_unread {m} wants rose x =
     (session_of ends.ReadFailed (wants.2, nil_from_length m.at.past.pending wants.1) x, (rw x.quiet.0 at rose, x.quiet.1))
 
--- by a failed write, behind a beginning of what waits first
+-- by a failed write, after a first part of the waiting bytes
 pub ended_unwritten : {between : OtherActors} {first m : SessionMoment} (chunk : List ℕ) (contents : Option (List ℕ)) (writes : ℕ) → IsChunkOf chunk m.at.past.pending
     → ((held : List ℕ) → m.contents ≡ Some held → Writes held chunk contents false) → FailuresRose m.writes writes → HasRun between first m
     → HasRunToEnd between first (record m { contents = contents; writes = writes }) ends.WriteFailed
@@ -140,7 +140,7 @@ ended_itself {between} {first} {m} end over empty x =
 
 -- ---- a connection that waits for more
 
--- it waits since nothing is to be handed out and the input goes on; nothing can be done with what is unread, and there is room
+-- it waits: nothing is to be sent, the input hasn't ended, nothing can be done with what is unread, and there is room for more
 pub rests_before : (c : ConnectionTrace) → length c.past.pending ≡ 0 → IsNotOverIn c.state → TraceIsIdleOrBlocked c → IsFalse c.past.ended × LacksMore c.state c.past.unread × (length c.past.unread < 16384)
 rests_before c empty going (inl some) = absurd (omega (arith, empty, some))
 rests_before c empty going (inr (inl over)) = absurd (not_both (stage_of c.state) going over)

@@ -15,7 +15,7 @@ use Rattle.hls_connection.specs.declared.receive.BodyTarget.TheVariants as targe
 use Rattle.hls_connection.specs.declared.state.ConnectionState.TheVariants as states
 use Rattle.hls_connection.specs.declared.connection.ConnectionMemory.TheVariants as places
 
--- ---- of which nothing came
+-- ---- an idle connection
 
 pub idle_history : (channel : ServedChannel) (notes : ConnectionNotes) → IsFresh notes → history_of (trace_at (idle_machine channel notes) []) ≡ new_history
 idle_history channel notes fresh = rw (fresh.acts, fresh.reads, fresh.writes)

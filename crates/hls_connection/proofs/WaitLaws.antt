@@ -22,7 +22,7 @@ not_removed id methods.Get is = refl
 not_removed id methods.Head is = refl
 not_removed id method is = absurd (cc is)
 
--- what is due for the answer that was made, or for want of memory
+-- what is due: the answer that was made, or the response to an allocation failure
 shown_due : {E : Type 0} (channel : ServedChannel) (h : RequestHead) (id : ℕ) (found : Result Job JobFault) (response : Result ResponseData E) (due : DueResponse)
     → IfOk response (IsJobResponse found (shown_if (params_of channel h) (routes.Job id) (allows (routes.Job id) (params_of channel h).method)))
     → IsDueFor (continue_prefix h (request_of channel h).action) response (sends_close h false) (to_head h) due → IsJobDue channel h id found due

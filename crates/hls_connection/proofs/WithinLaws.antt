@@ -22,7 +22,7 @@ use Rattle.hls_connection.specs.declared.receive.BodyTarget.TheVariants as targe
 
 -- ---- one step more
 
--- fewer bytes are unread behind some
+-- fewer bytes are unread after some were taken
 pub fewer : (len : ℕ) (unread : List ℕ) → 0 < len → len ≤ length unread → length (drop len unread) < length unread
 fewer len unread some within = omega (arith, some, within, length-drop len unread)
 
@@ -90,7 +90,7 @@ module _ (room_left : ℕ) (content : List ℕ) (last : BodyFraming) (unread : L
       let line = f.line (omega (arith, many)) in
       (line.0, record { size = announced_len next; rest = rest ++ later; line = line.1; many = omega (arith, all, many, f.done) })
 
--- ---- where a refusal stands in an encoder's body
+-- ---- where a refusal is in an encoder's body
 
 -- no bytes by length are left of a body in chunks
 chunks_go_on : (middle last : BodyFraming) → ((n : ℕ) → middle ≡ Length (suc n) → ⊥) → IsLastAlone middle last → is_over last ≡ false
@@ -98,7 +98,7 @@ chunks_go_on middle (Length zero) never alone = absurd (never 0 (alone refl))
 chunks_go_on middle (Length (suc n)) never alone = ne_eqb (suc n) 0 (λ is. omega (arith, is))
 chunks_go_on middle last never alone = refl
 
--- what shows in a piece stands at the end of a body by length where that piece is its last byte, and before it in any other
+-- what a piece shows is at the end of a body by length if the piece is its last byte, and before the end otherwise
 length_ends : (n before after size left : ℕ) (middle last : BodyFraming) → Leaves (Length n) before middle → last ≡ Length left → after + left ≡ n → IsLastAlone middle last
     → before < size → size ≤ after → is_over last ≡ nat_eq size n
 length_ends n before after size zero middle last l is count alone following within =

@@ -2,7 +2,8 @@
 -- What was noted of a keeper's acts.
 use Rattle.std.specs.{Prelude.{ℕ, List, [], ◌∷◌, Result}, declared.sync.Arc.Arc}
 use Rattle.hls_core_laws.specs.{declared.event.Event.Event, declared.refusal.Refusal.Refusal, State.State, declared.done.Done.Done}
-use Rattle.hls_api.specs.{Acts.{Act, Added, Looked, LookFailed, Removed, Submitted}, Types.{Request, JobFault}}
+use Rattle.hls_api.specs.{Acts.{Act, Added, Looked, LookFailed, ReadEncoders, Removed, Submitted}, Types.{Request, JobFault}}
+use Rattle.hls_api.specs.declared.encoder_readings.EncoderReadings.{EncoderReadings}
 use Rattle.hls_connection.specs.declared.act_log.ActNote.{ActNote}
 use Rattle.hls_connection.specs.declared.act_log.ActNote.TheVariants as act_note
 
@@ -18,12 +19,17 @@ abbrev pub act_of_added : {A B : Type 0} → List (Arc State A × B) → Request
 act_of_added [] request result = LookFailed
 act_of_added ((s, n) ∷ others) request result = Added s.value request result
 
+abbrev pub act_of_readings : {B : Type 0} → List (EncoderReadings × B) → Act
+act_of_readings [] = LookFailed
+act_of_readings ((readings, n) ∷ others) = ReadEncoders readings
+
 abbrev pub act_of : ActNote → Act
 act_of (act_note.Looked note) = act_of_look note.items
 act_of act_note.LookFailed = LookFailed
 act_of (act_note.Submitted note answer) = act_of_event note.items answer
 act_of (act_note.Added note request result) = act_of_added note.items request result
 act_of (act_note.Removed id result) = Removed id result
+act_of (act_note.ReadEncoders note) = act_of_readings note.items
 
 abbrev pub act_in : {B : Type 0} → ActNote × B → Act
 act_in note = act_of note.0

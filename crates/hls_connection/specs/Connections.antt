@@ -51,8 +51,8 @@ steps_left v = traces.trace_steps_left (trace_of v.memory)
 
 -- ---- what it waits for
 
--- where nothing waits to be sent: for a request, of which nothing came or something, for more of a body that is discarded or an
--- encoder's, for a job whose response waits, or for nothing: a response is being made, or all is over
+-- if nothing waits to be sent: for a request, whose head hasn't begun or has; for more of a body, which is discarded or an encoder's; for a
+-- job whose response waits; or for nothing: a response is being made, or all is over
 abbrev pub HasStatus : ConnectionStage → ConnectionState → List ℕ → Type 0
 HasStatus stages.Idle states.Head unread = length unread ≡ 0
 HasStatus stages.Head states.Head unread = 0 < length unread
@@ -72,8 +72,8 @@ read_failure_event v = read_failure_event_in (state_of v)
 
 -- ---- its keeper
 
--- The keeper suits the connection: all that it was asked for it was asked in states of which each follows the one that the last act
--- left, up to what it knows; others may have acted between.
+-- The keeper suits the connection: the states of the keeper's acts for it follow each other, up to what the keeper knows; others may have
+-- acted between.
 abbrev pub KeeperSuits : Knowledge → Connection → Type 0
 KeeperSuits known v = IsSuitedTo known (trace_of v.memory)
 

@@ -2,12 +2,13 @@
 use Rattle.std.specs.Prelude.{◌≡◌, ℕ, Bool, Option, Some, None, Result, Ok, Err, List, take}
 use Rattle.hls_media_laws.specs.{InitData.InitData, IsInitOrUnit.IsUnit}
 use Rattle.hls_core_laws.specs.declared.{event.Event.TheVariants.Accept, refusal.Refusal.Refusal, done.Done.Done}
-use Rattle.hls_core.specs.declared.feed_fault.FeedFault.{FeedFault}
+use Rattle.hls_core.specs.{declared.feed_fault.{FeedFault.FeedFault, StreamFault.TheVariants.AheadOfChannel}, Getters.recording_of}
+use Rattle.hls_core_laws.specs.State.{State}
 use Rattle.hls_mend_laws.specs.declared.settings.MendSettings.{MendSettings}
 use Rattle.hls_mend.specs.{MendedUnits.mended_view, declared.mended.MendedUnit.MendedUnit, declared.mended.ReadUnit.ReadUnit}
 use Rattle.hls_api.specs.declared.ingest.IngestCounts.{IngestCounts}
 use Rattle.hls_api.specs.Acts.{Act, AtMostOne, IsFailedSubmit, IsLook, RecordsSubmit}
-use Rattle.hls_api.specs.Ingest.{ChoosesInit, DecidesPart, DecidesUnit, Progress, StopsBeforeUnit, SubmitsFiller, SubmitsFillers, end_after, mended_result, with_mended}
+use Rattle.hls_api.specs.Ingest.{ChoosesInit, DecidesPart, DecidesUnit, Progress, RefusesAhead, StopsBeforeUnit, SubmitsFiller, SubmitsFillers, end_after, mended_for, mended_result, with_mended}
 use Rattle.hls_core.specs.declared.feed_fault.FeedFault.TheVariants as feed_faults
 
 -- nothing changes but the acts; or the acts and the counts
@@ -28,11 +29,18 @@ ChoosesInitOrFails r x bytes y (Ok chosen) = (y ≡ with_acts x y.acts) × Choos
 ChoosesInitOrFails r x bytes y (Err (feed_faults.Refused fault)) = ⊥
 ChoosesInitOrFails r x bytes y (Err feed_faults.Memory) = AtMostOne IsLook x.acts y.acts
 
--- what is submitted for a unit is decided; or an allocation failed
+-- what mending makes of a unit in a state; or an allocation failed
+abbrev pub MakesMended : MendSettings → ℕ → Option InitData → State → ReadUnit → Result MendedUnit FeedFault → Type 0
+MakesMended settings r found s u (Ok mended) = (init : InitData) → found ≡ Some init → mended_view mended ≡ mended_for settings init u (recording_of s r)
+MakesMended settings r found s u (Err (feed_faults.Refused fault)) = ⊥
+MakesMended settings r found s u (Err feed_faults.Memory) = Unit {0}
+
+-- what is submitted for a unit is decided; or it is refused as ahead of the channel; or an allocation failed
 abbrev pub DecidesUnitOrFails : MendSettings → ℕ → Progress → ReadUnit → Progress → Result MendedUnit FeedFault → Type 0
 DecidesUnitOrFails settings r x u y (Ok mended) =
     (y ≡ with_acts x y.acts) × ((init : InitData) → x.init ≡ Some init → DecidesUnit settings r x.end init u x.acts (mended_view mended) y.acts)
-DecidesUnitOrFails settings r x u y (Err (feed_faults.Refused fault)) = ⊥
+DecidesUnitOrFails settings r x u y (Err (feed_faults.Refused fault)) =
+    (fault ≡ AheadOfChannel) × (y ≡ with_acts x y.acts) × RefusesAhead settings r x.end u.facts x.acts y.acts
 DecidesUnitOrFails settings r x u y (Err feed_faults.Memory) = AtMostOne IsLook x.acts y.acts
 
 -- what is submitted for a unit was decided, and nothing is submitted yet

@@ -34,8 +34,8 @@ moment remaining contents machine session known = record {
 abbrev pub HasActed : OtherActors → Knowledge → Knowledge → ConnectionTrace → Type 0
 HasActed between first now c = IsSuitedTo now c × (c.channel ≡ unmended_channel (length first.seen.config.renditions)) × ActsExtend between first [] now (all_acts c)
 
--- where these were known, what was held at first and was still to come was received but for what is left, its end only where nothing is;
--- what was handed out is written; and no call failed
+-- if these were known: what was held at first and was still to come was received, except for what is left; its end was received only if
+-- nothing is left; what was sent is written; and no call failed
 pub record HasRun (m : OtherActors) (first now : SessionMoment) : Type 0 where
   pub past_acts : HasActed m first.known now.known now.at
   pub holds : IsConsistentTrace now.at

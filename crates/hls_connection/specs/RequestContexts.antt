@@ -19,7 +19,7 @@ pub record IsContextOf (channel : ServedChannel) (h : RequestHead) (context : Re
   pub route : context.route ≡ route_of channel (path_of h.target)
   pub query : context.route ≡ Some routes.CatchUp → IfOk context.query (λ query. query ≡ query_in (query_of h.target))
 
--- of whatever head in whatever channel this was kept
+-- this was kept of some head in some channel
 abbrev pub ForContext : RequestContext → (RequestHead → RequestParams → Type 0) → Type 0
 ForContext context Is = (channel : ServedChannel) (h : RequestHead) → IsContextOf channel h context → Is h (params_of channel h)
 
@@ -27,7 +27,7 @@ ForContext context Is = (channel : ServedChannel) (h : RequestHead) → IsContex
 abbrev pub ForContextAt : Route → RequestContext → (RequestHead → RequestParams → Type 0) → Type 0
 ForContextAt route context Is = ForContext context (λ h q. context.route ≡ Some route → Is h q)
 
--- what a query asks, of whatever text it was read
+-- what a query asks for; it was read from some text
 abbrev pub ForQuery : {E : Type 0} → Result (Option CatchupQuery) E → (Option CatchupQuery → Type 0) → Type 0
 ForQuery query Is = (text : List ℕ) → IfOk query (λ said. said ≡ query_in text) → Is (query_in text)
 

@@ -1,5 +1,5 @@
 -- For the proofs of this crate; no public clause cites it.
--- The states of a connection, and what a step from one to the next comes to.
+-- The states of a connection, and the result of a step from one to the next.
 use Rattle.hls_api.specs.declared.route.ServedChannel.{ServedChannel}
 use Rattle.std.specs.Prelude.{◌≡◌, ◌⊎◌, ℕ, ◌+◌, ◌*◌, ◌<◌, ◌≤◌, Bool, true, false, List, [], ◌++◌, length, Option, None, Err, IsTrue, IsFalse}
 use Rattle.hls_core_laws.specs.{IsState.IsState}
@@ -91,7 +91,7 @@ steps_of (states.Wait w) = 2
 steps_of (states.Write w) = 2 + w.parts
 steps_of (states.Receive r) = 65539
 
--- .. and with this many bytes, each of which may begin a request
+-- .. and with these unread bytes, where each one may begin a request
 abbrev pub steps_in : ConnectionState → List ℕ → ℕ
 steps_in state unread = 65539 * length unread + steps_of state
 
@@ -100,8 +100,8 @@ pub record ReportsProgress (ended : Bool) (old : ConnectionState) (before : List
   pub idle_or_blocked : IsFalse more → IsIdleOrWaiting ended new after
   pub lowers : IsTrue more → steps_in new after < steps_in old before
 
--- more may be done at once, in a state that any keeper suits, of which at most so many steps are made, and whose response waits for 30
--- seconds at most
+-- more may be done at once, in a state that any keeper suits, with at most `most` steps left, and whose response waits for 30 seconds
+-- at most
 pub record Proceeds (now : Option ℕ) (most : ℕ) (step : Transition) : Type 0 where
   pub suits : (known : Knowledge) → SuitsState known step.state
   pub continues : step.more ≡ true

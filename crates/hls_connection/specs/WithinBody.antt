@@ -25,8 +25,8 @@ use Rattle.hls_event_loop.specs.declared.activity.ConnectionStage.TheVariants as
 use Rattle.hls_api.specs.declared.ingest.IngestStop.TheVariants as ingest_stops
 use Rattle.hls_api.specs.declared.route.Route.TheVariants as routes
 
--- at the front of the stream, whatever follows it, are a head, of which this was kept, and some of a body, of which this is left; this
--- was written for it first
+-- at the front of the stream, whatever follows it, are a head, whose context was kept, and some of a body; `last` says what is left of the
+-- body, and `first` was written for it first
 pub record HasBody (channel : ServedChannel) (stream first : List ℕ) (context : RequestContext) (action : BodyFraming → RequestAction) (last : BodyFraming) (unread : List ℕ) : Type 0 where
   pub head : RequestHead
   pub following : List ℕ

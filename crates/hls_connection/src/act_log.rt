@@ -2,11 +2,12 @@
 
 ghost use Rattle.std.specs.Prelude.{◌≡◌, IfOk, [], ◌∷◌, ◌++◌};
 ghost use Rattle.hls_core_laws.specs.Moves.{IsFittingAsSeen};
-ghost use Rattle.hls_api.specs.{Acts.{ActsExtend, RecordsAdd, RecordsLookResult, RecordsRemove, RecordsSubmit}, JobTable.IsAddResult};
+ghost use Rattle.hls_api.specs.{Acts.{ActsExtend, RecordsAdd, RecordsLookResult, RecordsReading, RecordsRemove, RecordsSubmit}, JobTable.IsAddResult};
 ghost use Rattle.hls_catchup.specs.Jobs.Shared.{HasRemoved};
 ghost use Rattle.hls_connection.specs.ActNotes.{act_of};
 
 use crate::keeper::Keeper;
+use hls_api::encoder_readings::EncoderReadings;
 use hls_catchup::{JobFault, Request};
 use hls_core::snapshot::Snapshot;
 use hls_core_laws::done::Done;
@@ -30,6 +31,8 @@ pub(crate) enum ActNote {
     Added(Log<Arc<Snapshot>, ()>, Request, Result<u64, JobFault>),
     /// Removing a job, and its result.
     Removed(u64, Result<(), JobFault>),
+    /// What was read of the encoders.
+    ReadEncoders(Log<EncoderReadings, ()>),
 }
 
 /// The acts of a keeper, in order. A clause sees the list of acts.
@@ -75,6 +78,14 @@ impl ActLog {
             Err(_) => self.push(ActNote::LookFailed),
         }
     }
+
+    /// Appends what was read of the encoders.
+    pub(crate) fn note_readings(&mut self, readings: &EncoderReadings)
+        ensures { RecordsReading self.old readings.now self.new }
+    {
+        let note = Log::new().and(readings, &());
+        self.push(ActNote::ReadEncoders(note));
+    }
 }
 
 /// Looks, and notes the result.
@@ -98,6 +109,16 @@ pub fn submit<K: Keeper>(keeper: &mut K, acts: &mut ActLog, event: Event) -> Res
     let done = keeper.submit(event);
     acts.push(ActNote::Submitted(note, done));
     done
+}
+
+/// Reads what is known of the encoders, and notes it.
+pub fn read_encoders<K: Keeper>(keeper: &mut K, acts: &mut ActLog) -> EncoderReadings
+    ensures reads { RecordsReading acts.old result acts.new }
+    ensures act_steps { ActsExtend K.other_actors (K.known keeper.old) acts.old (K.known keeper.new) acts.new }
+{
+    let readings = keeper.read_encoders();
+    acts.note_readings(&readings);
+    readings
 }
 
 /// Adds a job, and notes the result.

@@ -7,6 +7,7 @@ ghost use Rattle.hls_connection.specs.Alone.{known_alone};
 
 use crate::act_log::{ActLog, ActNote};
 use crate::keeper::Keeper;
+use hls_api::encoder_readings::EncoderReadings;
 use hls_api::{Response, live_playlist_response};
 use hls_catchup::{Job, JobFault, Request};
 use hls_core::snapshot::Snapshot;
@@ -23,7 +24,8 @@ use std::alloc::{AllocError, Global};
 use std::sync::Arc;
 
 /// A keeper on one thread: the channel's snapshot, the worker's number in the log, and its jobs, which wait until they are taken from the
-/// table and run. Nobody else acts, so the snapshot that it saw last is the current one.
+/// table and run. Nobody else acts, so the snapshot that it saw last is the current one. It gets no signs of encoders, so all
+/// count as away.
 #[derive(Drop)]
 pub struct Alone {
     /// The allocator.
@@ -117,6 +119,12 @@ impl Keeper for Alone {
 
     fn job_count(&self) -> usize {
         self.jobs.len()
+    }
+
+    fn read_encoders(&mut self) -> EncoderReadings {
+        let readings = EncoderReadings::silence();
+        self.acts.note_readings(&readings);
+        readings
     }
 
     fn measured(&self) -> Measured {

@@ -9,6 +9,7 @@ use crate::events::NoObserver;
 use crate::keeper::Keeper;
 use crate::session::session_on;
 use crate::shared_channel::SharedChannel;
+use hls_api::encoder_readings::EncoderReadings;
 use hls_api::{PlaylistCache, Response};
 use hls_catchup::{Job, JobFault, Request};
 use hls_core::snapshot::Snapshot;
@@ -39,6 +40,8 @@ pub struct ChannelHandle<'a, T: Wait> {
     pub pass: Pass,
     /// Its acts.
     pub acts: ActLog,
+    /// The time at which its user last read the clock, in milliseconds.
+    pub now_ms: u64,
     lists: PlaylistCache,
     ghost ours: { pass.turn ≡ channel.turn.now },
     ghost listed: { HasSameListsBefore lists pass.known.seen },
@@ -62,6 +65,7 @@ impl<'a, T: Wait> ChannelHandle<'a, T> {
             channel: *channel,
             pass,
             acts: ActLog::new(),
+            now_ms: 0,
             lists: PlaylistCache::new(alloc),
         }
     }
@@ -125,6 +129,12 @@ impl<'a, T: Wait> Keeper for ChannelHandle<'a, T> {
 
     fn job_count(&self) -> usize {
         self.channel.jobs.len(self.rt)
+    }
+
+    fn read_encoders(&mut self) -> EncoderReadings {
+        let readings = self.channel.read_encoders(self.now_ms);
+        self.acts.note_readings(&readings);
+        readings
     }
 
     fn measured(&self) -> Measured {

@@ -26,6 +26,7 @@ const MOST_UNREAD: usize = 65536;
 const NO_CHANNEL: ServedChannel = ServedChannel {
     renditions: 0,
     mending: None,
+    shown_us: None,
 };
 
 /// Where a connection's memory is.
@@ -141,7 +142,7 @@ impl ConnectionMemory {
 }
 
 /// One connection. Read into it while it `wants_read`, call `advance` after each read and once its `output` is sent, and send that while
-/// it `wants_write`. After its `end` only what waits is still to be sent.
+/// it `wants_write`. After its `end` only the waiting bytes are still to be sent.
 ///
 /// It borrows the keeper of its channel at each `advance`; the same keeper may serve others between. While it is idle it holds no
 /// memory but its own 32 bytes, and nothing of what it sent.
@@ -156,15 +157,22 @@ impl Connection {
     ghost use Rattle.hls_connection.specs.Connections.{AnswersWait, IsStatus, IsIdleOrBlocked, KeeperSuits, Waits, WantsRead, deadline, read_failure_event, history, channel_of, stage, steps_left};
     ghost use Rattle.hls_connection.specs.Waits.{IsAhead, IsDeadline};
 
-    /// A new connection to the keeper's channel, whose units are mended so, if at all. It doesn't allocate.
-    pub fn new<K: Keeper>(keeper: &K, mending: Option<MendSettings>) -> Connection
+    /// A new connection to the keeper's channel. `mending` says how units are mended, if they are. `shown_us` is how many microseconds live
+    /// playlists by paths show; without it they show all that the line keeps. Doesn't allocate.
+    pub fn new<K: Keeper>(
+        keeper: &K,
+        mending: Option<MendSettings>,
+        shown_us: Option<u64>,
+    ) -> Connection
         ensures history { history result ≡ new_history }
         ensures suits { KeeperSuits (K.known keeper.now) result }
         ensures mending { (channel_of result).mending ≡ mending }
+        ensures shown { (channel_of result).shown_us ≡ shown_us }
     {
         let channel = ServedChannel {
             renditions: keeper.rendition_count(),
             mending,
+            shown_us,
         };
         Connection {
             alloc: keeper.alloc(),
@@ -187,7 +195,7 @@ impl Connection {
         };
         let active = &mut **active;
         let read = active.machine.read_from(&mut active.input, reader);
-        // (what was read, or that it was the end, leaves something to do)
+        // after a successful read, the input's end included, there is something to do
         if read.is_err() {
             self.memory.release();
         }

@@ -17,8 +17,8 @@ use hls_api::{
     Response, SegmentSpan, added_response, fault_response, file_response, finish_response,
     init_response, job_response, live_master_response, make_request, media_response,
     method_not_allowed_response, metrics_response, path_master_response, programme_response,
-    query_response, removed_response, resolve_query, run_response, segment_response,
-    status_response,
+    query_response, recent_playlist_response, removed_response, resolve_query, run_response,
+    segment_response, since_response, status_response,
 };
 use hls_catchup::{Job, JobFault};
 use hls_core::snapshot::Snapshot;
@@ -218,6 +218,7 @@ fn show_player<K: Keeper>(
         Route::PathList(rendition) => {
             keeper.live_playlist_response(state, rendition, MediaUris::Paths)
         }
+        Route::RecentList(rendition, us) => recent_playlist_response(alloc, state, rendition, us),
         Route::Run => run_response(alloc, &state),
         Route::InitSection(run, rendition) => init_response(
             alloc,
@@ -230,6 +231,7 @@ fn show_player<K: Keeper>(
             let span = SegmentSpan { first, last };
             segment_response(alloc, state, run, rendition, span, requested_range(context))
         }
+        Route::Since(start, file) => since_response(alloc, state, start, file),
         _ => unreachable!(),
     }
 }

@@ -3,13 +3,14 @@
 ghost use Rattle.std.specs.Prelude.{◌≡◌, IfOk, length};
 ghost use Rattle.hls_core_laws.specs.{IsState.IsState, Moves.IsFittingAsSeen, PassView.{MaySeeLater, Looks, Submits}};
 ghost use Rattle.hls_catchup.specs.Jobs.Shared.{HasCounted, HasRemoved};
-ghost use Rattle.hls_api.specs.Acts.{Added, Knowledge, RecordsLookResult, Removed, knowledge_after, view_of};
+ghost use Rattle.hls_api.specs.Acts.{Added, Knowledge, ReadEncoders, RecordsLookResult, Removed, knowledge_after, view_of};
 ghost use Rattle.hls_api.specs.{JobTable.{IsAddResult, IsGetResult}, OtherActors.{MayBecome, OtherActors, HasMet}};
 ghost use Rattle.hls_api.specs.Acts as acts;
 ghost use Rattle.hls_api.specs.Players.{live_list_answer};
 ghost use Rattle.hls_api.specs.Responses as replies;
 
 use hls_api::Response;
+use hls_api::encoder_readings::EncoderReadings;
 use hls_catchup::{Job, JobFault, Request};
 use hls_core::snapshot::Snapshot;
 use hls_core_laws::done::Done;
@@ -46,7 +47,7 @@ pub trait Keeper {
         ensures asked { RecordsLookResult (known self.old).acts result (known self.new).acts };
 
     /// Returns the response with the live list of a rendition, by ranges or by paths, in the state that the keeper saw last. A long one
-    /// may be partly made. 404 until a segment was ever closed.
+    /// may be partly made. 404 before the first segment is closed.
     fn live_playlist_response(
         &mut self,
         state: Arc<Snapshot>,
@@ -82,6 +83,10 @@ pub trait Keeper {
     fn job_count(&self) -> usize
         ensures { HasCounted result };
 
-    /// Returns what the server around the channel measured. Nothing is claimed of the numbers.
+    /// Returns what is known of the renditions' encoders now. No contract covers it.
+    fn read_encoders(&mut self) -> EncoderReadings
+        ensures { known self.new ≡ knowledge_after (known self.old) (ReadEncoders result) };
+
+    /// Returns what the server around the channel measured. No contract covers the numbers.
     fn measured(&self) -> Measured;
 }

@@ -153,7 +153,7 @@ impl ConnectionMachine {
             return false;
         }
         let alloc = keeper.alloc();
-        // (a body is received in its place: to move it there and back would cost more than most of its steps do)
+        // a body is received in place: moving it out and back would cost more than most of its steps do
         if let ConnectionState::Receive(receiving) = &mut self.state {
             match receiving.receive_some(input, keeper) {
                 BodyProgress::More => return true,

@@ -2,17 +2,19 @@
 
 ghost use Rattle.std.specs.Prelude.{◌≡◌, ◌<◌, ◌+◌, ◌^◌, All, IfOk};
 ghost use Rattle.hls_media_laws.specs.IsInitOrUnit.{IsUnit};
-ghost use Rattle.hls_api.specs.{Acts.ActsExtend, Ingest.MendsInit, Ingest.MendsPart, Ingest.end_after as end_by, Ingest.with_filler as counts_with_filler, Ingest.with_mended as counts_with_mended, Ingest.mended_result as result_of};
+ghost use Rattle.hls_api.specs.{Acts.ActsExtend, Ingest.MaySubmit, Ingest.MendsInit, Ingest.MendsPart, Ingest.end_after as end_by, Ingest.with_filler as counts_with_filler, Ingest.with_mended as counts_with_mended, Ingest.mended_result as result_of};
 ghost use Rattle.hls_connection.specs.IngestStates.{IsUsable, progress_of};
-ghost use Rattle.hls_connection.specs.MendingStates.{ChoosesInitOrFails, DecidesUnitOrFails, HasReadUnit, PreparesOrStops, SubmitsFillerOrFails, SubmitsFillersOrFail, SubmitsMended};
+ghost use Rattle.hls_connection.specs.MendingStates.{ChoosesInitOrFails, DecidesUnitOrFails, HasReadUnit, MakesMended, PreparesOrStops, SubmitsFillerOrFails, SubmitsFillersOrFail, SubmitsMended, with_acts};
 ghost use Rattle.hls_mend.specs.MendedUnits.{as_sent as sent_alone, mended_view};
 
-use crate::act_log::{look, submit};
+use crate::act_log::{look, read_encoders, submit};
 use crate::ingest_sink::{IngestSink, IngestState};
 use crate::keeper::Keeper;
 use bytes::Bytes;
+use hls_api::encoder_readings::{is_ahead, is_jump_accepted};
 use hls_api::ingest::IngestCounts;
 use hls_boxes::Part;
+use hls_core::snapshot::Snapshot;
 use hls_core::{FeedFault, StreamFault};
 use hls_core_laws::done::Done;
 use hls_core_laws::event::Event;
@@ -65,7 +67,7 @@ fn end_after(facts: Facts, answer: Result<Done, Refusal>, end: Option<u64>) -> O
     }
 }
 
-/// What a unit that was submitted comes to: the body continues after one that overlaps.
+/// The result for the body of a unit that was submitted: it continues after one that overlaps.
 fn into_result(answer: Result<Done, Refusal>) -> Result<(), FeedFault>
     ensures { result ≡ result_of answer }
 {
@@ -134,7 +136,57 @@ impl<K: Keeper> IngestSink<K> {
         self.take_init(taken, keeper, chosen)
     }
 
+    /// Whether a unit may be submitted, by the state that was looked at. One that is ahead of the channel may if the other renditions' encoders
+    /// are ahead or away.
+    fn may_submit(
+        &self,
+        settings: MendSettings,
+        taken: &mut IngestState,
+        keeper: &mut K,
+        state: &Snapshot,
+        facts: Facts,
+    ) -> bool
+        requires usable { IsUsable self.now.encoder.rendition (K.known keeper.old) taken.old.init }
+        ensures usable { IsUsable self.now.encoder.rendition (K.known keeper.new) taken.new.init }
+        ensures act_steps { ActsExtend K.other_actors (K.known keeper.old) taken.old.acts (K.known keeper.new) taken.new.acts }
+        ensures may { MaySubmit settings self.now.encoder.rendition state.now facts taken.old.acts taken.new.acts result }
+        ensures same { progress_of taken.new ≡ with_acts (progress_of taken.old) taken.new.acts }
+    {
+        if !is_ahead(settings.fill_us, state, facts.start_us) {
+            return true;
+        }
+        let readings = read_encoders(keeper, &mut taken.acts);
+        is_jump_accepted(state, self.encoder.rendition, &readings)
+    }
+
+    /// What mending makes of a unit in a state.
+    fn mend_in(
+        &self,
+        settings: MendSettings,
+        taken: &IngestState,
+        keeper: &K,
+        state: &Snapshot,
+        unit: ReadUnit,
+    ) -> Result<MendedUnit, FeedFault>
+        requires reads { HasReadUnit taken.now.init unit }
+        ensures mends { MakesMended settings self.now.encoder.rendition taken.now.init state.now unit result }
+        ensures valid { IfOk result (λ m. HasReadUnit taken.now.init m.unit) }
+        ensures filled { IfOk result (λ m. All (HasReadUnit taken.now.init) m.fillers.items) }
+    {
+        let Some(init) = &taken.init else {
+            unreachable!()
+        };
+        let Some(recording) = state.recording(self.encoder.rendition) else {
+            return Ok(as_sent(keeper.alloc(), unit));
+        };
+        match mend_unit(keeper.alloc(), settings, init, recording, unit) {
+            Ok(mended) => Ok(mended),
+            Err(_) => Err(FeedFault::Memory),
+        }
+    }
+
     /// Decides what is submitted for a unit. The state is looked at only if the unit doesn't start at the end of the body's last one.
+    #[tactic(auto, using(crate::proofs::MendLaws::fails_to_decide, crate::proofs::MendLaws::decides_submit, crate::proofs::MendLaws::decides_refuse))]
     fn decide_unit(
         &self,
         settings: MendSettings,
@@ -150,21 +202,19 @@ impl<K: Keeper> IngestSink<K> {
         ensures valid { IfOk result (λ m. HasReadUnit taken.new.init m.unit) }
         ensures filled { IfOk result (λ m. All (HasReadUnit taken.new.init) m.fillers.items) }
     {
-        if taken.end == Some(unit.facts.start) {
+        let facts = unit.facts;
+        if taken.end == Some(facts.start) {
             return Ok(as_sent(keeper.alloc(), unit));
         }
         let Ok(state) = look(keeper, &mut taken.acts) else {
             return Err(FeedFault::Memory);
         };
-        let Some(init) = &taken.init else {
-            unreachable!()
-        };
-        let Some(recording) = state.recording(self.encoder.rendition) else {
-            return Ok(as_sent(keeper.alloc(), unit));
-        };
-        match mend_unit(keeper.alloc(), settings, init, recording, unit) {
-            Ok(mended) => Ok(mended),
-            Err(_) => Err(FeedFault::Memory),
+        // a unit that is ahead is submitted as it was sent, so no bytes are made that aren't used
+        let mended = self.mend_in(settings, taken, keeper, &state, unit)?;
+        if self.may_submit(settings, taken, keeper, &state, facts) {
+            Ok(mended)
+        } else {
+            Err(FeedFault::Refused(StreamFault::AheadOfChannel))
         }
     }
 

@@ -1,4 +1,4 @@
-//! Sessions.
+//! Sessions: the requests of one reader, and their responses to one writer.
 
 ghost use Rattle.hls_api.specs.{Acts.Knowledge, OtherActors.OtherActors};
 ghost use Rattle.hls_http.specs.BufferedReader.{unread_of};
@@ -83,8 +83,8 @@ fn step_session<K: Keeper, O: Observer, R: Read, W: Write>(
 /// Serves the requests of a session, each up to its response before the next is read, until the input ends, a response says
 /// `Connection: close`, or the reader or the writer fails. May wait for its keeper.
 ///
-/// Units aren't mended. The memory of a request is freed after its response. If there is none, the fixed response is written and the session ends. The
-/// runtime is for a session that never ends.
+/// Units aren't mended. The memory of a request is freed after its response. After an allocation failure the fixed response is written
+/// and the session ends. The runtime is for a session that never ends.
 pub fn session_on<K: Keeper, O: Observer, T: Wait, R: Read, W: Write>(
     rt: &T,
     session: &mut Session<R, W>,
@@ -97,6 +97,7 @@ pub fn session_on<K: Keeper, O: Observer, T: Wait, R: Read, W: Write>(
     let channel = ServedChannel {
         renditions: keeper.rendition_count(),
         mending: None,
+        shown_us: None,
     };
     let mut machine = ConnectionMachine::new(channel, ConnectionNotes::new());
     machine.note_read(&session.source.input, 0, false);

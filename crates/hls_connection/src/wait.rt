@@ -73,7 +73,7 @@ fn is_unfinished(found: &Result<Job, JobFault>) -> bool
     matches!(found, Ok(Job::Waiting | Job::Running))
 }
 
-/// Whether a response waits on: its job is unfinished, and its deadline is still to come.
+/// Whether a response continues to wait: its job is unfinished, and its deadline is still to come.
 fn waits_on(now: Option<u64>, deadline_ms: u64, found: &Result<Job, JobFault>) -> bool
     ensures { result ≡ (has_time now deadline_ms && is_unfinished found.now) }
 {

@@ -14,6 +14,7 @@ use hls_connection::shared_channel::SharedChannel;
 use hls_fakes::PageWriter;
 use hls_http::{Session, SessionEnd};
 use hls_jobs::{Gate, Jobs, work_loop};
+use hls_mend::EncoderSigns;
 use hls_metrics::Measurements;
 use hls_turn::Turn;
 use std::alloc::Global;
@@ -27,6 +28,10 @@ struct OpenGate;
 impl Gate for OpenGate {
     fn enter(&self, _id: u64) -> bool {
         true
+    }
+
+    fn now_ms(&self) -> u64 {
+        0
     }
 
     fn leave(&self, _id: u64) {}
@@ -83,10 +88,13 @@ fn sent_to<T: Wait>(rt: &T, alloc: Global, jobs: &Jobs) -> Option<(SessionOutcom
     let Ok(measurements) = Measurements::new(alloc) else {
         return None;
     };
+    let signs = EncoderSigns::new();
     let channel = SharedChannel {
         turn: &turn,
         jobs,
         measurements: &measurements,
+        signs: &signs,
+        wait_ms: 5000,
     };
     let Some(second) = passes.pop() else {
         return None;

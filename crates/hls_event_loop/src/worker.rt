@@ -21,6 +21,7 @@ use std::time::{Clock, Duration};
 use std::{io, mem};
 
 mod accepting;
+mod ending;
 
 /// The listener's token.
 const LISTENER_TOKEN: Token = Token(usize::MAX);
@@ -36,6 +37,9 @@ const LONGEST_TICK_MS: u64 = 1000;
 
 /// The shortest time between two checks of the timeouts, in milliseconds.
 const SHORTEST_TICK_MS: u64 = 100;
+
+/// How often a worker that is to end looks at its connections, in milliseconds.
+const ENDING_TICK_MS: u64 = 20;
 
 /// Registers a worker at its listener. Returns its index.
 fn join_listener(
@@ -331,6 +335,9 @@ impl<'a, H: Handler + Drop> Worker<'a, H> {
         if !self.ready.is_empty() || self.wait_queue.has_woken() {
             return Some(Duration::from_millis(0));
         }
+        if self.worker_loads.end_ms().is_some() {
+            return Some(Duration::from_millis(ENDING_TICK_MS));
+        }
         if self.accepts_left > 0
             && let Some(time) = self.backlog.time_left(self.now)
         {
@@ -373,6 +380,7 @@ impl<'a, H: Handler + Drop> Worker<'a, H> {
         }
         self.resume_ready();
         self.resume_woken();
+        self.end_connections();
         self.accept_some();
         self.stop_accepting();
         self.check_timeouts();

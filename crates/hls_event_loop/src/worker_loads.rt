@@ -9,6 +9,9 @@ use std::sync::atomic::{AtomicBool, AtomicU64, Ordering};
 /// How many connections above its share a worker may hold before it lets the others accept first.
 const SLACK: u64 = 4;
 
+/// How long responses may take once the workers are to end, in milliseconds.
+const LAST_RESPONSES_MS: u64 = 500;
+
 /// The rank of a worker that hasn't searched yet, before all others: it may have any connection.
 pub(crate) const UNKNOWN_RANK: u64 = 0;
 
@@ -66,6 +69,8 @@ pub struct WorkerLoads {
     most: u64,
     /// How many connections each worker accepts before it ends.
     pub(crate) connections: u64,
+    /// When the workers close the last connections, in milliseconds; the maximum unless they are to end.
+    end_ms: AtomicU64,
 }
 
 impl WorkerLoads {
@@ -88,6 +93,7 @@ impl WorkerLoads {
             waiting_workers: AtomicU64::new(0),
             most: most.max(1),
             connections,
+            end_ms: AtomicU64::new(u64::MAX),
         })
     }
 
@@ -162,6 +168,32 @@ impl WorkerLoads {
         }
     }
 
+    /// Has the workers end: they accept no more connections, close one once it has no request, and the others half a second after this
+    /// moment of the monotonic clock. Each connection gets turns until then. Any thread may call this.
+    pub fn end(&self, now_ms: u64) {
+        if self.end_ms().is_none() {
+            self.end_ms
+                .store(now_ms.saturating_add(LAST_RESPONSES_MS), Ordering::SeqCst);
+        }
+        for worker_load in &self.loads {
+            worker_load.waker.wake_for_connection();
+        }
+        self.wake_waiting();
+    }
+
+    /// Whether the workers are to end.
+    pub fn is_ending(&self) -> bool {
+        self.end_ms().is_some()
+    }
+
+    /// When the workers close the last connections, if they are to end.
+    pub(crate) fn end_ms(&self) -> Option<u64> {
+        match self.end_ms.load(Ordering::SeqCst) {
+            u64::MAX => None,
+            end_ms => Some(end_ms),
+        }
+    }
+
     /// The other worker that accepts and holds the fewest connections.
     pub(crate) fn find_least_loaded(&self, index: usize) -> Option<usize> {
         let (mut found, mut least) = (None, u64::MAX);
@@ -193,6 +225,11 @@ impl WorkerLoads {
                 .open_connections
                 .store(open_connections as u64, Ordering::SeqCst);
         }
+    }
+
+    /// Returns how many connections all workers hold.
+    pub fn connection_count(&self) -> u64 {
+        self.open_connections.load(Ordering::SeqCst)
     }
 
     /// Whether all places are in use. Workers that ask at once may each accept one more, and keep a file each for that.

@@ -1,5 +1,5 @@
 -- Boundaries, one unit at a time, and that a filler fits the rendition that is away.
-use Rattle.std.proofs.Common.{◌≡◌, ◌∙◌, ℕ, suc, ◌+◌, ◌-◌, ◌<◌, ◌≤◌, Bool, true, false, ◌&&◌, cond, if◌then◌else◌, Option, Some, None, List, [], ◌∷◌, length, drop, refl, sym, ap, subst, arith}
+use Rattle.std.proofs.Common.{◌≡◌, ◌∙◌, ℕ, suc, ◌+◌, ◌-◌, ◌<◌, ◌≤◌, Bool, true, false, ◌&&◌, ◌||◌, not, cond, if◌then◌else◌, Option, Some, None, List, [], ◌∷◌, length, drop, refl, sym, ap, subst, arith}
 use Rattle.std.specs.Prelude.{nat_le, slice_get, unwrap_or}
 use Rattle.std.specs.Option.{option_map, option_or}
 use Rattle.std.proofs.lemmas.Option.{unwrap_or-slice_get}
@@ -9,7 +9,7 @@ use Rattle.hls_media_laws.specs.declared.facts.Facts.{Facts}
 use Rattle.hls_media_laws.specs.FactLists.{no_facts}
 use Rattle.hls_record.specs.RecordingData.{RecordingData}
 use Rattle.hls_core_laws.specs.State.{State}
-use Rattle.hls_housekeeper.specs.Away.{earlier, end_us_of, first_of, is_boundary, least_end, next_boundary, present_at, within}
+use Rattle.hls_housekeeper.specs.Away.{begins_second, earlier, end_us_of, first_of, is_boundary, least_end, next_boundary, present_at, within}
 
 -- ---- renditions
 
@@ -50,8 +50,9 @@ and_second : (a b : Bool) → (a && b) ≡ true → b ≡ true
 and_second true b is = is
 and_second false b is = absurd (cc)
 
-boundary-after : (end_us least_us : ℕ) (f : Facts) → is_boundary end_us least_us f ≡ true → least_us ≤ f.start_us - end_us
-boundary-after end_us least_us f is = leb-true least_us (f.start_us - end_us) (and_second f.sync (nat_le least_us (f.start_us - end_us)) is)
+boundary-after : (audio : Bool) (end_us least_us : ℕ) (f : Facts) → is_boundary audio end_us least_us f ≡ true → least_us ≤ f.start_us - end_us
+boundary-after audio end_us least_us f is =
+    leb-true least_us (f.start_us - end_us) (and_second (f.sync && (not audio || begins_second f)) (nat_le least_us (f.start_us - end_us)) is)
 
 within_none : (fill_us limit_us end_us least_us : ℕ) (o : Option Facts) → ((f : Facts) → o ≡ Some f → least_us ≤ f.start_us - end_us) → limit_us - end_us < least_us
     → within fill_us limit_us end_us o ≡ None
@@ -62,8 +63,8 @@ within_none fill_us limit_us end_us least_us (Some f) after far =
     ap (λ (b : Bool). if b && nat_le (f.start_us - end_us) fill_us then Some f else None) (lt-leb f.start_us limit_us late)
 
 -- where all that are there haven't come far enough, nothing is filled
-pub nothing_within : (fill_us limit_us end_us least_us : ℕ) (fs : List Facts) → limit_us - end_us < least_us
-    → within fill_us limit_us end_us (next_boundary end_us least_us fs) ≡ None
-nothing_within fill_us limit_us end_us least_us fs far =
-    within_none fill_us limit_us end_us least_us (next_boundary end_us least_us fs)
-    (λ f is. boundary-after end_us least_us f (found_passes (is_boundary end_us least_us) (drop (length fs - 4096) fs) f is)) far
+pub nothing_within : (audio : Bool) (fill_us limit_us end_us least_us : ℕ) (fs : List Facts) → limit_us - end_us < least_us
+    → within fill_us limit_us end_us (next_boundary audio end_us least_us fs) ≡ None
+nothing_within audio fill_us limit_us end_us least_us fs far =
+    within_none fill_us limit_us end_us least_us (next_boundary audio end_us least_us fs)
+    (λ f is. boundary-after audio end_us least_us f (found_passes (is_boundary audio end_us least_us) (drop (length fs - 4096) fs) f is)) far

@@ -1,5 +1,5 @@
 -- Which renditions are away, and how far each is filled: up to the next boundary of a rendition that is present.
-use Rattle.std.specs.Prelude.{ℕ, zero, suc, ◌+◌, ◌-◌, ◌*◌, ◌/◌, ◌^◌, nat_le, min, Bool, true, false, not, ◌&&◌, if◌then◌else◌, is_some, Option, Some, None, List, length, drop, slice_index_or}
+use Rattle.std.specs.Prelude.{ℕ, zero, suc, ◌+◌, ◌-◌, ◌*◌, ◌/◌, ◌%◌, ◌^◌, nat_le, nat_lt, min, Bool, true, false, not, ◌&&◌, ◌||◌, if◌then◌else◌, is_some, Option, Some, None, List, length, drop, slice_index_or}
 use Rattle.std.specs.Option.{option_map, option_or}
 use Rattle.std.specs.List.{find}
 use Rattle.hls_media_laws.specs.declared.facts.Facts.{Facts}
@@ -81,20 +81,23 @@ leader_at s silent n = leader_from s silent (leader s silent n)
 
 -- ---- boundaries
 
--- a unit that begins with a sync sample, at least so long after the end
-abbrev pub is_boundary : ℕ → ℕ → Facts → Bool
-is_boundary end_us least_us f = f.sync && nat_le least_us (f.start_us - end_us)
+-- a second of the clock begins within the unit
+abbrev pub begins_second : Facts → Bool
+begins_second f = nat_lt ((1000000 - f.start_us % 1000000) % 1000000) (f.end_us - f.start_us)
+
+-- a unit that begins with a sync sample, at least so long after the end. Where audio leads, one for each second, the same for all
+-- renditions: every unit of audio begins with a sync sample
+abbrev pub is_boundary : Bool → ℕ → ℕ → Facts → Bool
+is_boundary leader_is_audio end_us least_us f = (f.sync && (not leader_is_audio || begins_second f)) && nat_le least_us (f.start_us - end_us)
 
 -- the first boundary among the last 4096 units
-abbrev pub next_boundary : ℕ → ℕ → List Facts → Option Facts
-next_boundary end_us least_us fs = find (is_boundary end_us least_us) (drop (length fs - 4096) fs)
+abbrev pub next_boundary : Bool → ℕ → ℕ → List Facts → Option Facts
+next_boundary leader_is_audio end_us least_us fs = find (is_boundary leader_is_audio end_us least_us) (drop (length fs - 4096) fs)
 
--- how far after a rendition's end the next boundary is, at least, in microseconds: where audio leads, a second, since each of its units is
--- a boundary; and audio is continued by some frames at least
-abbrev pub least_span_us : Bool → Bool → ℕ
-least_span_us true audio = 1000000
-least_span_us false true = 100000
-least_span_us false false = 1
+-- how far after a rendition's end the next boundary is, at least, in microseconds: audio is continued by some frames at least
+abbrev pub least_span_us : Bool → ℕ
+least_span_us true = 100000
+least_span_us false = 1
 
 -- a boundary up to which all that are there have come, and which is at most `fill_us` after the end
 abbrev pub within : ℕ → ℕ → ℕ → Option Facts → Option Facts
@@ -104,7 +107,7 @@ within fill_us limit_us end_us (Some f) = if nat_le f.start_us limit_us && nat_l
 -- the boundary up to which a rendition is filled
 abbrev pub fill_end : ℕ → ℕ → RecordingData → RecordingData → Option Facts
 fill_end fill_us limit_us lead rec =
-    within fill_us limit_us (end_us_of rec) (next_boundary (end_us_of rec) (least_span_us (is_audio lead.init) (is_audio rec.init)) lead.facts)
+    within fill_us limit_us (end_us_of rec) (next_boundary (is_audio lead.init) (end_us_of rec) (least_span_us (is_audio rec.init)) lead.facts)
 
 -- ---- fillers
 

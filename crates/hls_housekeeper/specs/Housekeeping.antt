@@ -6,6 +6,8 @@ use Rattle.hls_core.specs.Upkeeps.{IsUpkeepOf}
 use Rattle.hls_mend_laws.specs.declared.settings.MendSettings.{MendSettings}
 use Rattle.hls_mend.specs.declared.mended.ReadUnit.{ReadUnit}
 use Rattle.hls_housekeeper.specs.Away.{accept_of, filler_of}
+use Rattle.hls_housekeeper.specs.TrimHolds.{holds_back}
+use Rattle.hls_housekeeper.specs.declared.trim_hold.TrimHold.{TrimHold}
 use Rattle.hls_housekeeper.specs.declared.housekeeper.UpkeepOutcome.{UpkeepOutcome, TheVariants.{UpToDate, Trimmed, BackedOff}}
 
 -- the submitted event is the one that upkeep yields for the state that the pass saw last
@@ -42,8 +44,8 @@ pub record RunsUpkeep (mending : Option MendSettings) (window keep : ℕ) (old n
   pub through : List PassView
   pub steps : RunsUpkeepThrough mending window keep old through new
 
--- how a round ends, given the state seen last: while the housekeeper backs off, a trim waits, and nothing else that is due does
-abbrev pub EndsRound : Bool → ℕ → ℕ → State → UpkeepOutcome → Type 0
-EndsRound resting window keep s BackedOff = (resting ≡ true) × ((rendition floor : ℕ) × IsUpkeepOf s window keep (Some (Trim rendition floor)))
-EndsRound resting window keep s UpToDate = IsUpkeepOf s window keep None
-EndsRound resting window keep s Trimmed = IsUpkeepOf s window keep None
+-- how a round ends, given the state seen last: a trim that is held back waits, and nothing else that is due does
+abbrev pub EndsRound : TrimHold → ℕ → ℕ → State → UpkeepOutcome → Type 0
+EndsRound hold window keep s BackedOff = (rendition floor : ℕ) × IsUpkeepOf s window keep (Some (Trim rendition floor)) × (holds_back hold rendition floor ≡ true)
+EndsRound hold window keep s UpToDate = IsUpkeepOf s window keep None
+EndsRound hold window keep s Trimmed = IsUpkeepOf s window keep None

@@ -7,3 +7,4 @@ pub mod Memory
 pub mod MemoryNeeds
 pub mod Coverage
 pub mod Away
+pub mod TrimHolds

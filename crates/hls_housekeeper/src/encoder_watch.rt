@@ -5,9 +5,10 @@ use crate::display::DisplayName;
 use crate::operator_log::OperatorLog;
 use crate::progress::MOST_RENDITIONS;
 use crate::server_status::ServerStatus;
-use crate::warnings::{log_away, log_returned};
+use crate::warnings::{log_ahead, log_away, log_in_place, log_returned};
 use hls_core::snapshot::Snapshot;
 use hls_core_laws::rendition::Rendition;
+use hls_metrics::measurements::add;
 use std::io::Eprint;
 
 /// What is known of the encoders.
@@ -19,12 +20,22 @@ pub struct EncoderWatch {
     pub silent: [bool; MOST_RENDITIONS],
     /// The number of fillers of each rendition since its encoder is away.
     pub fillers: [u64; MOST_RENDITIONS],
+    /// How many of these fillers were counted.
+    counted_fillers: u64,
     away: [Alert; MOST_RENDITIONS],
+    ahead: [Alert; MOST_RENDITIONS],
 }
 
 /// Whether a rendition has begun and isn't finished.
 fn is_open(snapshot: &Snapshot, rendition: usize) -> bool {
     snapshot.recording(rendition).is_some() && snapshot.is_finished(rendition) == Some(false)
+}
+
+/// Returns the sum of numbers.
+fn sum(numbers: &[u64]) -> u64 {
+    numbers
+        .iter()
+        .fold(0, |sum: u64, number| sum.saturating_add(*number))
 }
 
 impl EncoderWatch {
@@ -34,7 +45,9 @@ impl EncoderWatch {
             since: [0; MOST_RENDITIONS],
             silent: [false; MOST_RENDITIONS],
             fillers: [0; MOST_RENDITIONS],
+            counted_fillers: 0,
             away: [Alert::new(); MOST_RENDITIONS],
+            ahead: [Alert::new(); MOST_RENDITIONS],
         }
     }
 
@@ -48,6 +61,7 @@ impl EncoderWatch {
         status: &H,
         clock: WatchClock,
     ) {
+        self.count_fillers(status);
         let mut is_any_present = false;
         for number in 0..renditions.len().min(MOST_RENDITIONS) {
             let silence_ms = self.silence_ms(number, snapshot, status, clock.now);
@@ -57,7 +71,15 @@ impl EncoderWatch {
         for number in 0..renditions.len().min(MOST_RENDITIONS) {
             let name = DisplayName(&renditions[number].name);
             self.log_news(log, number, name, is_any_present, clock.now);
+            self.log_jump(log, number, name, status.is_ahead(number), clock.now);
         }
+        self.counted_fillers = sum(&self.fillers);
+    }
+
+    /// Counts the fillers since the last call of `update`.
+    fn count_fillers<H: ServerStatus>(&self, status: &H) {
+        let fillers = sum(&self.fillers).saturating_sub(self.counted_fillers);
+        add(&status.measurements().filled_fragments, fillers);
     }
 
     /// How long nothing was heard of a rendition's encoder, in milliseconds; 0 if the rendition isn't open.
@@ -80,6 +102,25 @@ impl EncoderWatch {
         }
         let heard = status.last_heard_ms(number).max(self.since[number]);
         now.saturating_sub(heard)
+    }
+
+    /// Logs that a rendition's units are refused as ahead of the channel, at most once a minute, and that they no longer are.
+    fn log_jump<E: Eprint>(
+        &mut self,
+        log: &OperatorLog<'_, E>,
+        number: usize,
+        name: DisplayName<'_>,
+        is_ahead: bool,
+        now: u64,
+    ) {
+        if number >= MOST_RENDITIONS {
+            return;
+        }
+        match self.ahead[number].update(is_ahead, true, now) {
+            AlertChange::Raised => log_ahead(log, name),
+            AlertChange::Cleared => log_in_place(log, name),
+            AlertChange::Unchanged => {}
+        }
     }
 
     /// Logs that a rendition is away, at most once a minute, and that its encoder is back.

@@ -4,7 +4,8 @@ ghost use Rattle.std.specs.Prelude.{◌≡◌, ◌<◌, option_map, IfOk, IfSome
 ghost use Rattle.std.specs.Option.{option_copied};
 ghost use Rattle.hls_core_laws.specs.Moves.{IsFittingAsSeen};
 ghost use Rattle.hls_media_laws.specs.{FactLists.fact_at, IsInitOrUnit.IsUnit};
-ghost use Rattle.hls_housekeeper.specs.Away.{accept_of, away_at, fill_end, filler_of, filler_to, is_boundary as is_boundary_at, leader_at, least_span_us as least_span, next_boundary as next_boundary_of, next_filler, rescaled, span_ticks as ticks_of_span, within as within_time};
+ghost use Rattle.hls_mend.specs.MendedUnits.{is_audio as is_audio_init};
+ghost use Rattle.hls_housekeeper.specs.Away.{accept_of, away_at, begins_second as second_begins, fill_end, filler_of, filler_to, is_boundary as is_boundary_at, leader_at, least_span_us as least_span, next_boundary as next_boundary_of, next_filler, rescaled, span_ticks as ticks_of_span, within as within_time};
 
 use crate::away::{away_recording, end_us, find_leader, is_audio, least_end, present_recording};
 use hls_core::snapshot::Snapshot;
@@ -18,22 +19,35 @@ use std::alloc::{AllocError, Global};
 /// How many of the leader's last units are looked at.
 const MOST_UNITS: u64 = 4096;
 
-/// Whether a unit begins with a sync sample, at least so long after the end.
-fn is_boundary(end_us: u64, least_us: u64, facts: Facts) -> bool
-    ensures { result ≡ is_boundary_at end_us least_us facts }
+/// Microseconds per second.
+const SECOND: u64 = 1_000_000;
+
+/// Whether a second of the clock begins within a unit.
+fn begins_second(facts: Facts) -> bool
+    ensures { result ≡ second_begins facts }
 {
-    facts.sync && least_us <= facts.start_us.saturating_sub(end_us)
+    let until_second = (SECOND - facts.start_us % SECOND) % SECOND;
+    until_second < facts.end_us.saturating_sub(facts.start_us)
 }
 
-/// The first boundary that is at least so long after the end.
-fn find_boundary(recording: &Recording, end_us: u64, least_us: u64) -> Option<Facts>
-    ensures { result ≡ next_boundary_of end_us least_us recording.now.facts }
+/// Whether a unit begins with a sync sample, at least so long after the end; where audio leads, one for each second.
+fn is_boundary(lead: &Recording, end_us: u64, least_us: u64, facts: Facts) -> bool
+    ensures { result ≡ is_boundary_at (is_audio_init lead.now.init) end_us least_us facts }
 {
-    let count = recording.count();
+    facts.sync
+        && (!is_audio(lead) || begins_second(facts))
+        && least_us <= facts.start_us.saturating_sub(end_us)
+}
+
+/// The first boundary of the leader that is at least so long after the end.
+fn find_boundary(lead: &Recording, end_us: u64, least_us: u64) -> Option<Facts>
+    ensures { result ≡ next_boundary_of (is_audio_init lead.now.init) end_us least_us lead.now.facts }
+{
+    let count = lead.count();
     let mut n = count.saturating_sub(MOST_UNITS);
     'units: while n < count {
-        let facts = facts_at(recording, n);
-        if is_boundary(end_us, least_us, facts) {
+        let facts = facts_at(lead, n);
+        if is_boundary(lead, end_us, least_us, facts) {
             return Some(facts);
         }
         n += 1;
@@ -53,14 +67,10 @@ fn facts_at(recording: &Recording, n: u64) -> Facts
 }
 
 /// How far after a rendition's end the next boundary is, at least, in microseconds.
-fn least_span_us(leader_is_audio: bool, is_audio: bool) -> u64
-    ensures { result ≡ least_span leader_is_audio is_audio }
+fn least_span_us(is_audio: bool) -> u64
+    ensures { result ≡ least_span is_audio }
 {
-    match (leader_is_audio, is_audio) {
-        (true, _) => 1_000_000,
-        (false, true) => 100_000,
-        (false, false) => 1,
-    }
+    if is_audio { 100_000 } else { 1 }
 }
 
 /// The boundary, if all that are there have come as far, and it is at most `fill_us` after the end.
@@ -86,7 +96,7 @@ fn find_fill_end(
     ensures { result ≡ fill_end fill_us limit_us lead.now recording.now }
 {
     let end = end_us(recording);
-    let least = least_span_us(is_audio(lead), is_audio(recording));
+    let least = least_span_us(is_audio(recording));
     // nothing is looked for before all have come far enough
     if limit_us.saturating_sub(end) < least {
         return None;

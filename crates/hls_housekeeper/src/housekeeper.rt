@@ -14,6 +14,7 @@ use crate::operator_log::{OperatorLog, log_refused_upkeep};
 use crate::progress::channel_time;
 use crate::server_status::ServerStatus;
 use crate::trim_backoff::TrimBackoff;
+use crate::trim_hold::{TrimHold, WrittenUnits};
 use hls_core::snapshot::Snapshot;
 use hls_core::upkeep::upkeep;
 use hls_core_laws::event::Event;
@@ -43,7 +44,7 @@ pub enum UpkeepOutcome {
     UpToDate,
     /// Nothing is due any more, and units were trimmed.
     Trimmed,
-    /// A trim is due, but waits for the backoff to end.
+    /// A trim is due, but is held back.
     BackedOff,
 }
 
@@ -86,19 +87,19 @@ fn submit_upkeep<R: Wait>(
     }
 }
 
-/// Submits what is due until nothing is or an event is refused. During a backoff trims wait, and only the rest is submitted.
+/// Submits what is due until nothing is or an event is refused. A trim that is held back waits, and only the rest is submitted.
 fn run_upkeep<R: Wait>(
     rt: &R,
     alloc: Global,
     turn: &Turn,
     timing: WindowSettings,
-    resting: bool,
+    hold: TrimHold,
     pass: &mut Pass,
 ) -> Result<UpkeepOutcome, Refusal>
     requires { pass.old.turn ≡ turn.now }
     ensures ours { pass.new.turn ≡ turn.now }
     ensures keeps { (mending : Option MendSettings) → RunsUpkeep mending timing.window timing.keep pass.old.known pass.new.known }
-    ensures ends { IfOk result (EndsRound resting timing.window timing.keep pass.new.known.seen) }
+    ensures ends { IfOk result (EndsRound hold timing.window timing.keep pass.new.known.seen) }
 {
     let mut trimmed = false;
     for _ in rt.forever() {
@@ -109,8 +110,8 @@ fn run_upkeep<R: Wait>(
                 UpkeepOutcome::UpToDate
             });
         };
-        if matches!(&event, Event::Trim { .. }) {
-            if resting {
+        if let Event::Trim { rendition, floor } = &event {
+            if hold.holds_back(*rendition, *floor) {
                 return Ok(UpkeepOutcome::BackedOff);
             }
             trimmed = true;
@@ -126,6 +127,17 @@ struct Housekeeper {
     /// When a refused event was last logged, in milliseconds of the clock; 0 if never.
     logged_at_ms: u64,
     backoff: TrimBackoff,
+    written: WrittenUnits,
+}
+
+impl Housekeeper {
+    /// Returns what holds trims back at a moment of the clock and of the channel.
+    fn find_hold(&self, now: u64, time: u64) -> TrimHold {
+        TrimHold {
+            resting: self.backoff.is_active(now, time),
+            written: self.written.counts,
+        }
+    }
 }
 
 /// What the housekeeper does after a round.
@@ -230,6 +242,29 @@ fn watch_encoders<E: Eprint, H: ServerStatus>(
     }
 }
 
+/// Inspects the channel, if that is due.
+fn inspect_channel<R: Wait + Eprint, H: ServerStatus>(
+    log: &OperatorLog<'_, R>,
+    settings: &Settings,
+    snapshot: &Snapshot,
+    status: &H,
+    monitor: &mut Monitor,
+    now: u64,
+) {
+    if monitor.is_due(now) {
+        status.measure_process();
+        let inspected = ChannelStatus {
+            measurements: status.measurements(),
+            settings,
+            snapshot,
+            jobs: status.job_count(log.rt),
+            connections: status.connection_count(),
+            journal_busy_ms: status.journal_busy_ms(now),
+        };
+        monitor.inspect(log, &inspected, now);
+    }
+}
+
 /// The pause after a round in which renditions were filled too. Where an allocation failed, the housekeeper runs again by itself.
 fn plan_after_filling<E: Eprint>(
     log: &OperatorLog<'_, E>,
@@ -271,29 +306,26 @@ pub fn run_housekeeper<R: Wait + Clock + Eprint + Env, H: ServerStatus>(
     let mut housekeeper = Housekeeper {
         logged_at_ms: 0,
         backoff: TrimBackoff::none(),
+        written: WrittenUnits::new(),
     };
     let mut monitor = Monitor::new(monotonic_ms(rt).max(1));
     let mut watch = EncoderWatch::new();
     for _ in rt.forever() {
         turn.wait_told(rt);
         let now = monotonic_ms(rt).max(1);
+        status.remove_unused_jobs(rt, now);
         let mut time = 0;
         if let Ok(snapshot) = turn.look(rt, alloc, pass) {
             time = channel_time(&snapshot);
-            if monitor.is_due(now) {
-                let inspected = ChannelStatus {
-                    measurements: status.measurements(),
-                    settings,
-                    snapshot: &snapshot,
-                    jobs: status.job_count(rt),
-                };
-                monitor.inspect(&log, &inspected, now);
-            }
+            housekeeper
+                .written
+                .update(status.written_version(), &snapshot);
+            inspect_channel(&log, settings, &snapshot, status, &mut monitor, now);
             watch_encoders(&log, settings, &snapshot, status, &mut watch, now);
         }
         let filled = run_filling(rt, alloc, turn, settings, &mut watch, pass);
-        let resting = housekeeper.backoff.is_active(now, time);
-        let round = run_upkeep(rt, alloc, turn, timing, resting, pass);
+        let hold = housekeeper.find_hold(now, time);
+        let round = run_upkeep(rt, alloc, turn, timing, hold, pass);
         let pause = plan_next_round(&log, timing.keep, &mut housekeeper, round, now, time);
         let pause = plan_after_filling(&log, &mut housekeeper, filled, now, pause);
         if pause.again {

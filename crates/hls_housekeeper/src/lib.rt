@@ -10,6 +10,7 @@
 mod alert;
 mod away;
 mod coverage;
+mod cut_measures;
 mod display;
 mod encoder_watch;
 mod fill;
@@ -23,10 +24,12 @@ mod memory_needs;
 mod monitor;
 mod nearest_sync;
 mod operator_log;
+mod process;
 mod progress;
 mod server_status;
 mod thread_counts;
 mod trim_backoff;
+mod trim_hold;
 mod warnings;
 
 pub use display::{DisplayName, DisplayNames, DisplaySettings};
@@ -35,5 +38,6 @@ pub use log_throttle::{LogThrottle, may_log};
 pub use memory::log_memory;
 pub use memory_needs::{MemoryNeeds, MemoryParts, settings_needs, write_needs};
 pub use operator_log::{OperatorLog, log_ended_worker, log_failed_accept, log_line, log_listening};
+pub use process::measure_process;
 pub use server_status::ServerStatus;
 pub use thread_counts::{ThreadCounts, log_fewer_threads};

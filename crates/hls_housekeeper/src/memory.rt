@@ -17,7 +17,7 @@ use std::{fs, str};
 const MEGABYTE: u64 = 1_000_000;
 
 /// The size of the buffer for one file of `/proc` or of a control group.
-const ROOM: usize = 4096;
+pub(crate) const ROOM: usize = 4096;
 
 /// Returns how long media are kept, in microseconds: the kept time, the window, two target durations, and a backoff.
 pub(crate) fn retained_us(timing: WindowSettings) -> u128
@@ -51,14 +51,14 @@ pub(crate) fn bits_of(renditions: &[Rendition]) -> u64
 }
 
 /// Reads the text of a file, as far as it fits in the buffer.
-fn read_text<'b, R: Files>(rt: &R, path: &str, room: &'b mut [u8]) -> Option<&'b str> {
+pub(crate) fn read_text<'b, R: Files>(rt: &R, path: &str, room: &'b mut [u8]) -> Option<&'b str> {
     let mut file = fs::open(rt, path).ok()?;
     let len = file.read(room).ok()?;
     str::from_utf8(room.get(..len)?).ok()
 }
 
 /// Returns the word after a label at the start of a line, up to the next blank.
-fn find_word_after<'t>(text: &'t str, label: &str) -> Option<&'t str> {
+pub(crate) fn find_word_after<'t>(text: &'t str, label: &str) -> Option<&'t str> {
     for line in text.lines() {
         if let Some(rest) = line.strip_prefix(label) {
             return rest.split_whitespace().next();

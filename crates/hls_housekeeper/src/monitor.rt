@@ -4,6 +4,7 @@
 
 use crate::alert::{Alert, AlertChange};
 use crate::coverage::{count_missing, count_uncovered, is_uneven};
+use crate::cut_measures::{measure_distances, measure_gaps, measure_unplaced};
 use crate::display::DisplayName;
 use crate::gauge::Gauge;
 use crate::lag::{RenditionProgress, find_first_late};
@@ -15,13 +16,14 @@ use crate::progress::{
 };
 use crate::warnings::{
     BlockingRendition, LimitedResource, log_encrypted, log_fewer_jobs, log_late, log_limit,
-    log_many_jobs, log_missing, log_recovered, log_uncovered,
+    log_many_jobs, log_missing, log_recovered, log_resumed_journal, log_stalled_journal,
+    log_uncovered,
 };
 use hls_codecs::is_track_encrypted;
 use hls_core::snapshot::{LOG_LIMIT, Snapshot};
 use hls_core_laws::rendition::Rendition;
 use hls_metrics::Measurements;
-use hls_metrics::measurements::store;
+use hls_metrics::measurements::{load, store};
 use hls_record::Recording;
 use hls_record::recording::RECORDING_LIMIT;
 use hls_settings::Settings;
@@ -29,6 +31,9 @@ use std::io::Eprint;
 
 /// The least time between two inspections, in milliseconds.
 const INSPECTION_MS: u64 = 1000;
+
+/// How long writing the journal takes at most, in milliseconds, before it counts as stalled.
+const STALLED_MS: u64 = 2000;
 
 /// Half of the places for jobs.
 const HALF: usize = 32;
@@ -45,6 +50,7 @@ pub struct Monitor {
     missing: Alert,
     uncovered: Alert,
     jobs: Alert,
+    stalled: Alert,
     entries: Gauge,
     recordings: [Gauge; MOST_RENDITIONS],
     /// The renditions whose init section was inspected.
@@ -66,13 +72,16 @@ struct Inspection<'a, E> {
     now: u64,
 }
 
-/// What is inspected: the channel, how many jobs it has, and where what is found is stored.
+/// What is inspected: the channel, how many jobs and open connections it has, and where what is found is stored.
 #[derive(Clone, Copy)]
 pub struct ChannelStatus<'a> {
     pub measurements: &'a Measurements,
     pub settings: &'a Settings,
     pub snapshot: &'a Snapshot,
     pub jobs: usize,
+    pub connections: u64,
+    /// For how long the journal's follower has been at work without a pause, in milliseconds.
+    pub journal_busy_ms: u64,
 }
 
 /// Returns the name of a rendition; empty if there is none.
@@ -149,25 +158,41 @@ fn are_all_there(snapshot: &Snapshot, renditions: &[Rendition], moment: u64) -> 
     true
 }
 
-/// Of these units of the first rendition, counts those that aren't places although no rendition was away.
-fn count_unplaced(
+/// Of these units of the first rendition, the newest first, counts those that aren't places although no rendition was away. Also returns
+/// the newest of them.
+fn find_unplaced(
     snapshot: &Snapshot,
     renditions: &[Rendition],
     units: &[u64],
     places: &[u64],
-) -> u64 {
+) -> (u64, Option<u64>) {
     let mut count: u64 = 0;
+    let mut newest = None;
     let Some(first) = snapshot.recording(0) else {
-        return 0;
+        return (0, None);
     };
     for unit in units {
         if let Some(facts) = first.facts(*unit) {
             if !places.contains(unit) && are_all_there(snapshot, renditions, facts.start_us) {
                 count = count.saturating_add(1);
+                newest = newest.or(Some(*unit));
             }
         }
     }
-    count
+    (count, newest)
+}
+
+/// Stores how many of these units of the first rendition became places, and why the others didn't.
+fn measure_places<E: Eprint>(at: &Inspection<'_, E>, units: &[u64], places: &[u64]) {
+    let (snapshot, renditions) = (at.snapshot, at.settings.config.renditions());
+    store(&at.measurements.checked_syncs, units.len() as u64);
+    let (unplaced, newest) = find_unplaced(snapshot, renditions, units, places);
+    store(&at.measurements.unplaced_syncs, unplaced);
+    if let Some(first) = snapshot.recording(0) {
+        measure_unplaced(at.measurements, first, newest);
+        measure_distances(at.measurements, snapshot, renditions, first, units);
+    }
+    measure_gaps(at.measurements, snapshot);
 }
 
 impl Monitor {
@@ -179,6 +204,7 @@ impl Monitor {
             missing: Alert::new(),
             uncovered: Alert::new(),
             jobs: Alert::new(),
+            stalled: Alert::new(),
             entries: Gauge::new(now, 0),
             recordings: [Gauge::new(now, 0); MOST_RENDITIONS],
             inspected: [false; MOST_RENDITIONS],
@@ -209,14 +235,16 @@ impl Monitor {
             now,
         };
         self.measure_times(&at);
+        store(&at.measurements.open_connections, status.connections);
         self.inspect_limits(&at);
         self.inspect_lag(&at);
         self.inspect_cuts(&at);
         self.inspect_jobs(&at, status.jobs);
+        self.inspect_journal(&at, status.journal_busy_ms);
         self.inspect_encryption(&at);
     }
 
-    /// Stores how long the server has run, and how long the live playlists have ended with the same segment: not at all before there is
+    /// Stores how long the server has run, how long ago its journal was synced, and how long the live playlists have ended with the same segment: not at all before there is
     /// one.
     fn measure_times<E: Eprint>(&mut self, at: &Inspection<'_, E>) {
         let next = at.snapshot.line().segments().next();
@@ -226,6 +254,16 @@ impl Monitor {
         }
         let uptime_ms = at.now.saturating_sub(self.since);
         let still_ms = at.now.saturating_sub(self.still_since);
+        let synced_ms = load(&at.measurements.journal_synced_ms);
+        let unsynced_ms = if synced_ms > 0 {
+            at.now.saturating_sub(synced_ms)
+        } else {
+            0
+        };
+        store(
+            &at.measurements.sync_age_us,
+            unsynced_ms.saturating_mul(1000),
+        );
         store(&at.measurements.uptime_us, uptime_ms.saturating_mul(1000));
         store(&at.measurements.still_us, still_ms.saturating_mul(1000));
     }
@@ -303,9 +341,7 @@ impl Monitor {
         let places = last_places(snapshot, units.last().copied().unwrap_or(0));
         let places = places.as_slice();
         let missed = count_missing(units, places);
-        store(&at.measurements.checked_syncs, units.len() as u64);
-        let unplaced = count_unplaced(snapshot, renditions, units, places);
-        store(&at.measurements.unplaced_syncs, unplaced);
+        measure_places(at, units, places);
         if let AlertChange::Raised = self.missing.update(is_uneven(missed), true, at.now) {
             let blocking = find_blocking_rendition(snapshot, renditions, units, places);
             log_missing(at.log, name(renditions, 0), missed, units.len(), blocking);
@@ -318,6 +354,15 @@ impl Monitor {
             AlertChange::Unchanged => {}
             AlertChange::Raised => log_many_jobs(at.log, jobs),
             AlertChange::Cleared => log_fewer_jobs(at.log, jobs),
+        }
+    }
+
+    /// Checks whether the journal's disk has stalled: responses wait for it.
+    fn inspect_journal<E: Eprint>(&mut self, at: &Inspection<'_, E>, busy_ms: u64) {
+        match self.stalled.update(busy_ms >= STALLED_MS, true, at.now) {
+            AlertChange::Unchanged => {}
+            AlertChange::Raised => log_stalled_journal(at.log, busy_ms),
+            AlertChange::Cleared => log_resumed_journal(at.log),
         }
     }
 

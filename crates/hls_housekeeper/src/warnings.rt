@@ -32,6 +32,20 @@ pub fn log_recovered<E: Eprint>(log: &OperatorLog<'_, E>) {
     let _ = eprintln!(log.rt; "serve: live lists go on");
 }
 
+/// Logs that a write to the journal, or a sync, takes long.
+pub fn log_stalled_journal<E: Eprint>(log: &OperatorLog<'_, E>, busy_ms: u64) {
+    let (rt, level) = (log.rt, log.warning_prefix());
+    let seconds = busy_ms / 1000;
+    let _ = eprintln!(rt;
+        "{level}serve: journal: the disk has been busy for {seconds} s: responses with media wait for it"
+    );
+}
+
+/// Logs that the journal is written again.
+pub fn log_resumed_journal<E: Eprint>(log: &OperatorLog<'_, E>) {
+    let _ = eprintln!(log.rt; "serve: journal: the disk answers again");
+}
+
 /// Logs that nothing is heard of a rendition's encoder, so that the rendition is filled.
 pub fn log_away<E: Eprint>(log: &OperatorLog<'_, E>, name: DisplayName<'_>, fillers: u64) {
     let (rt, level) = (log.rt, log.warning_prefix());
@@ -41,6 +55,19 @@ pub fn log_away<E: Eprint>(log: &OperatorLog<'_, E>, name: DisplayName<'_>, fill
 /// Logs that a rendition's encoder is back.
 pub fn log_returned<E: Eprint>(log: &OperatorLog<'_, E>, name: DisplayName<'_>, fillers: u64) {
     let _ = eprintln!(log.rt; "serve: {name} is back after {fillers} fillers");
+}
+
+/// Logs that a rendition's units are refused as ahead of the channel.
+pub fn log_ahead<E: Eprint>(log: &OperatorLog<'_, E>, name: DisplayName<'_>) {
+    let (rt, level) = (log.rt, log.warning_prefix());
+    let _ = eprintln!(rt;
+        "{level}serve: {name} is refused as AheadOfChannel while others continue"
+    );
+}
+
+/// Logs that a rendition's units are no longer ahead of the channel.
+pub fn log_in_place<E: Eprint>(log: &OperatorLog<'_, E>, name: DisplayName<'_>) {
+    let _ = eprintln!(log.rt; "serve: {name} is no longer ahead of the channel");
 }
 
 /// A resource that fills up towards its limit.

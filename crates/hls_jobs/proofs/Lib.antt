@@ -1,6 +1,8 @@
 mod ByIds
 mod Valid
 mod Calls
+mod Uses
+mod Unused
 mod Keeps
 mod Lists
 mod CertificateTexts

@@ -1,5 +1,6 @@
 pub mod ProgrammeLaws
 pub mod Programmes
 pub mod Rows
+pub mod LastUses
 pub mod Model
 pub mod CertificateWriter

@@ -12,6 +12,9 @@ pub trait Gate {
     /// Whether the loop may run the job of this id. If not, the loop ends, and the job stays running.
     fn enter(&self, id: u64) -> bool;
 
+    /// Returns the moment at which a job ends, in milliseconds of the monotonic clock: its life begins then.
+    fn now_ms(&self) -> u64;
+
     /// Notes that the job of this id has ended: the table holds its outcome, unless it was removed.
     fn leave(&self, id: u64);
 }
@@ -22,6 +25,10 @@ impl Gate for () {
         ensures { result ≡ true }
     {
         true
+    }
+
+    fn now_ms(&self) -> u64 {
+        0
     }
 
     fn leave(&self, _id: u64) {}
@@ -40,7 +47,8 @@ pub fn work_loop<R: Wait, G: Gate>(rt: &R, alloc: Global, jobs: &Jobs, gate: &G)
             return;
         }
         let id = work.id;
-        let _ = jobs.finish(rt, run_job(alloc, work));
+        let finished = run_job(alloc, work);
+        let _ = jobs.finish(rt, finished, gate.now_ms());
         gate.leave(id);
     }
 }

@@ -1,20 +1,31 @@
 //! The job table behind a lock, with a condition variable for loops that wait for work.
 
 ghost use Rattle.std.specs.Prelude.{◌≡◌, ◌⊎◌, IfOk, IfSome, true, false};
+ghost use Rattle.hls_catchup.specs.Jobs.Changes.{Finishes, Gets, Removes};
+ghost use Rattle.hls_catchup.specs.Jobs.Tables.{IsJobTable};
+ghost use Rattle.hls_jobs.specs.LastUses.{RemovesUnused};
+ghost use Rattle.hls_jobs.specs.Model.{without_returned};
 ghost use Rattle.hls_jobs.specs.Rows.{HasWaiting};
 ghost use Rattle.hls_catchup.specs.Jobs.States.{IsRightJob};
 ghost use Rattle.hls_catchup.specs.Jobs.Shared.{HasAdded, HasCounted, HasFinished, HasGot, HasRemoved, HasTaken};
 
-use crate::table::JobTable;
-use hls_catchup::{Finished, Job, JobFault, Request, Work};
+use crate::last_uses::{JobAge, LastUse, note_use, remove_use};
+use crate::table::{JOB_LIMIT, JobError, JobTable};
+use hls_catchup::{Finished, Job, JobFault, JobRow, Request, Work};
 use hls_core::snapshot::Snapshot;
 use std::alloc::{AllocError, Global};
+use std::sync::atomic::{AtomicU64, Ordering};
 use std::sync::{Arc, Condvar, Mutex, Wait};
+
+/// The time between two removals of unused jobs, in milliseconds.
+const SWEEP_MS: u64 = 1000;
 
 /// What the lock protects.
 #[derive(Drop)]
 struct JobsInner {
     table: JobTable,
+    /// When each job was used last.
+    uses: Vec<LastUse>,
     closed: bool,
 }
 
@@ -25,6 +36,46 @@ impl JobsInner {
         ensures table { self.new.table ≡ self.old.table }
     {
         self.closed = true;
+    }
+
+    /// Returns the state of a job, which is used then.
+    fn get(&mut self, id: u64, now_ms: u64) -> Result<Job, JobFault>
+        ensures gets { Gets self.old.table id result }
+        ensures valid { IsJobTable self.old.table }
+        ensures table { self.new.table ≡ self.old.table }
+    {
+        let job = self.table.get(id)?;
+        let _ = note_use(&mut self.uses, id, now_ms);
+        Ok(job)
+    }
+
+    /// Removes a job.
+    fn remove(&mut self, id: u64) -> Result<JobRow, JobFault>
+        ensures removes { Removes self.old.table id result self.new.table }
+        ensures valid { IsJobTable self.old.table }
+    {
+        remove_use(&mut self.uses, id);
+        self.table.try_remove(id)
+    }
+
+    /// Finishes a job, whose life begins then.
+    fn finish(&mut self, finished: Finished, now_ms: u64) -> Result<(), JobError<Finished>>
+        ensures finishes { Finishes self.old.table finished (without_returned result) self.new.table }
+        ensures valid { IsJobTable self.old.table }
+    {
+        let id = finished.id();
+        self.table.try_finish(finished)?;
+        let _ = note_use(&mut self.uses, id, now_ms);
+        Ok(())
+    }
+
+    /// Removes a job that has ended and wasn't used for long enough.
+    fn remove_unused(&mut self, age: JobAge) -> Option<JobRow>
+        ensures removes { RemovesUnused self.old.table self.old.uses.items age result self.new.table }
+    {
+        let row = self.table.remove_unused(&self.uses, age)?;
+        remove_use(&mut self.uses, row.id);
+        Some(row)
     }
 
     /// Whether a loop has to wait: no job waits, and the table isn't closed.
@@ -42,26 +93,64 @@ impl JobsInner {
 pub struct Jobs {
     inner: Mutex<JobsInner>,
     available: Condvar,
+    /// The latest moment that was noted, in milliseconds of the monotonic clock.
+    now_ms: AtomicU64,
+    /// When unused jobs were last to be removed, by the same clock.
+    swept_ms: AtomicU64,
 }
 
 impl Jobs {
     /// Creates an empty table. An allocation failure is the only error.
     pub fn new(alloc: Global) -> Result<Jobs, AllocError> {
-        Ok(Jobs::with_table(JobTable::new(alloc)?))
+        Jobs::with_table(alloc, JobTable::new(alloc)?)
     }
 
     /// Creates an empty table whose ids count from the given one, at least 1 and at most 2^53. An allocation failure is the only error.
     pub fn starting_at(alloc: Global, first: u64) -> Result<Jobs, AllocError> {
-        Ok(Jobs::with_table(JobTable::starting_at(alloc, first)?))
+        Jobs::with_table(alloc, JobTable::starting_at(alloc, first)?)
     }
 
-    fn with_table(table: JobTable) -> Jobs {
-        Jobs {
+    fn with_table(alloc: Global, table: JobTable) -> Result<Jobs, AllocError> {
+        let uses = Vec::with_capacity(alloc, JOB_LIMIT)?;
+        Ok(Jobs {
             inner: Mutex::new(JobsInner {
                 table,
+                uses,
                 closed: false,
             }),
             available: Condvar::new(),
+            now_ms: AtomicU64::new(0),
+            swept_ms: AtomicU64::new(0),
+        })
+    }
+
+    /// Notes a moment, in milliseconds of the monotonic clock: a job that is used from now on is used then. Returns whether unused jobs
+    /// are to be removed first, which is so once a second.
+    pub fn note_time(&self, now_ms: u64) -> bool {
+        if self.now_ms.load(Ordering::SeqCst) < now_ms {
+            self.now_ms.store(now_ms, Ordering::SeqCst);
+        }
+        if now_ms
+            < self
+                .swept_ms
+                .load(Ordering::SeqCst)
+                .saturating_add(SWEEP_MS)
+        {
+            return false;
+        }
+        self.swept_ms.store(now_ms, Ordering::SeqCst);
+        true
+    }
+
+    /// Removes the jobs that have ended and that nobody has used for `life_ms` milliseconds. A response that is being sent has its own
+    /// share of the job's answer. May wait.
+    pub fn remove_unused<R: Wait>(&self, rt: &R, now_ms: u64, life_ms: u64) {
+        let age = JobAge { now_ms, life_ms };
+        for _ in 0..JOB_LIMIT {
+            let removed = self.inner.lock(rt).remove_unused(age);
+            if removed.is_none() {
+                return;
+            }
         }
     }
 
@@ -82,19 +171,20 @@ impl Jobs {
         }
     }
 
-    /// Returns the state of a job; an answer is shared, not copied. May wait.
+    /// Returns the state of a job, which is used then; an answer is shared, not copied. May wait.
     pub fn get<R: Wait>(&self, rt: &R, id: u64) -> Result<Job, JobFault>
         ensures gets { HasGot id result }
         ensures right { IfOk result IsRightJob }
     {
-        self.inner.lock(rt).table.get(id)
+        let now_ms = self.now_ms.load(Ordering::SeqCst);
+        self.inner.lock(rt).get(id, now_ms)
     }
 
     /// Removes a job. May wait.
     pub fn remove<R: Wait>(&self, rt: &R, id: u64) -> Result<(), JobFault>
         ensures { HasRemoved id result }
     {
-        let removed = self.inner.lock(rt).table.try_remove(id);
+        let removed = self.inner.lock(rt).remove(id);
         match removed {
             Ok(_) => Ok(()),
             Err(fault) => Err(fault),
@@ -124,11 +214,16 @@ impl Jobs {
             .take_work()
     }
 
-    /// Finishes a job. May wait.
-    pub(crate) fn finish<R: Wait>(&self, rt: &R, finished: Finished) -> Result<(), JobFault>
+    /// Finishes a job at a moment, in milliseconds of the monotonic clock. May wait.
+    pub(crate) fn finish<R: Wait>(
+        &self,
+        rt: &R,
+        finished: Finished,
+        now_ms: u64,
+    ) -> Result<(), JobFault>
         ensures { HasFinished finished result }
     {
-        let ended = self.inner.lock(rt).table.try_finish(finished);
+        let ended = self.inner.lock(rt).finish(finished, now_ms);
         match ended {
             Ok(()) => Ok(()),
             Err(refused) => Err(refused.fault),

@@ -4,8 +4,10 @@ ghost use Rattle.std.specs.Prelude.{◌≡◌, [], IfOk, IfErr, length, max, min
 ghost use Rattle.hls_catchup.specs.Jobs.Tables.{IsJobTable, empty_table, id_limit};
 ghost use Rattle.hls_catchup.specs.Jobs.Changes.{Adds, Takes, Finishes, Gets, Removes};
 ghost use Rattle.hls_jobs.specs.Model.{without_returned};
+ghost use Rattle.hls_jobs.specs.LastUses.{RemovesUnused};
 ghost use Rattle.hls_jobs.specs.Rows.{HasWaiting};
 
+use crate::last_uses::{JobAge, LastUse, find_unused_row};
 use crate::rows::{
     find_row, find_waiting_row, is_running_for, push_row, report_job, set_state, start_job,
     state_of_answer,
@@ -17,7 +19,7 @@ use std::marker::Model;
 use std::sync::Arc;
 
 /// The most jobs at once, in any state.
-const JOB_LIMIT: usize = 64;
+pub(crate) const JOB_LIMIT: usize = 64;
 
 /// The number after the last id.
 const ID_LIMIT: u64 = 1 << 53;
@@ -198,5 +200,14 @@ impl JobTable {
             return Err(JobFault::UnknownJob);
         };
         Ok(self.rows.remove(at))
+    }
+
+    /// Removes the first job that has ended and wasn't used for long enough, and returns it, since it can take long to drop.
+    pub fn remove_unused(&mut self, uses: &[LastUse], age: JobAge) -> Option<JobRow>
+        ensures removes { RemovesUnused self.old uses.now age result self.new }
+        ensures valid { IsJobTable self.old }
+    {
+        let at = find_unused_row(&self.rows, uses, age)?;
+        Some(self.rows.remove(at))
     }
 }

@@ -1,3 +1,4 @@
 pub mod Lines
 pub mod Measurements
 pub mod Metrics
+pub mod Refusals

@@ -29,3 +29,6 @@ counter name help number = description name (codes "counter") help ++ row name n
 
 unfoldable pub seconds_gauge : List ℕ → List ℕ → ℕ → List ℕ
 seconds_gauge name help us = description name (codes "gauge") help ++ seconds_row name us
+
+unfoldable pub seconds_counter : List ℕ → List ℕ → ℕ → List ℕ
+seconds_counter name help us = description name (codes "counter") help ++ seconds_row name us

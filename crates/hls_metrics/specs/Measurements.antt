@@ -1,7 +1,8 @@
 -- The metrics that aren't of a state: what the server counts and measures while it runs. Nothing is claimed of the numbers.
 use Rattle.std.specs.Prelude.{ℕ, suc, ◌/◌, ◌%◌, ◌==◌, cond, List, [], ◌∷◌, ◌++◌, codes, slice_index}
 use Rattle.std.specs.Fmt.{decimal}
-use Rattle.hls_metrics.specs.Lines.{counter, description, gauge, seconds_gauge}
+use Rattle.hls_metrics.specs.Lines.{counter, description, gauge, seconds_counter, seconds_gauge}
+use Rattle.hls_metrics.specs.Refusals.{refusal_metrics}
 use Rattle.hls_metrics.specs.declared.measured.Measured.{Measured}
 
 unfoldable pub traffic_metrics : Measured → List ℕ
@@ -9,6 +10,11 @@ traffic_metrics m =
     counter (codes "hls_connections_total") (codes "Connections that were accepted.") m.accepted_connections
     ++ (counter (codes "hls_received_bytes_total") (codes "Bytes that were read from connections.") m.received_bytes
     ++ counter (codes "hls_sent_bytes_total") (codes "Bytes that were written to connections.") m.sent_bytes)
+
+unfoldable pub connection_metrics : Measured → List ℕ
+connection_metrics m =
+    gauge (codes "hls_connections") (codes "Connections that are open.") m.open_connections
+    ++ gauge (codes "hls_responses_waiting") (codes "Responses that wait for a state, a job or the journal.") m.waiting_responses
 
 unfoldable pub sync_metrics : Measured → List ℕ
 sync_metrics m =
@@ -22,6 +28,21 @@ process_metrics m =
     ++ (gauge (codes "process_virtual_memory_bytes") (codes "Address space of the process.") m.virtual_bytes
     ++ gauge (codes "process_virtual_memory_max_bytes") (codes "The limit of the address space; 0 if there is none.") m.max_virtual_bytes)
 
+-- where the last sync sample begins that is no place
+abbrev pub unplaced_metric : Measured → List ℕ
+unplaced_metric m =
+    seconds_gauge (codes "hls_sync_sample_unplaced_seconds") (codes "Where the last one begins that is no place, on the encoders' clock; 0 if all are.") m.unplaced_us
+
+unfoldable pub file_metrics : Measured → List ℕ
+file_metrics m =
+    gauge (codes "process_open_fds") (codes "Files and sockets that the process has open.") m.open_files
+    ++ gauge (codes "process_max_fds") (codes "How many it may have open.") m.max_files
+
+unfoldable pub time_metrics : Measured → List ℕ
+time_metrics m =
+    seconds_counter (codes "process_cpu_seconds_total") (codes "Processor time of all threads.") m.cpu_us
+    ++ seconds_gauge (codes "process_start_time_seconds") (codes "When the process began, since 1970.") m.started_us
+
 -- times of the monotonic clock in microseconds
 unfoldable pub clock_metrics : Measured → List ℕ
 clock_metrics m =
@@ -33,6 +54,11 @@ repair_metrics m =
     counter (codes "hls_mended_fragments_total") (codes "Fragments that were mended before they were accepted.") m.mended_fragments
     ++ (counter (codes "hls_filled_fragments_total") (codes "Fragments that fill gaps of a rendition.") m.filled_fragments
     ++ gauge (codes "hls_journal_lag_entries") (codes "Log entries that the journal doesn't have yet.") m.journal_lag)
+
+unfoldable pub journal_metrics : Measured → List ℕ
+journal_metrics m =
+    gauge (codes "hls_journal_lost") (codes "Whether the channel continues without its journal.") m.journal_lost
+    ++ seconds_gauge (codes "hls_journal_sync_age_seconds") (codes "How long ago the journal was synced last; 0 without one.") m.sync_age_us
 
 -- ---- requests, by route and status
 
@@ -48,7 +74,8 @@ route_kind n =
     (cond (n == 6) (codes "status")
     (cond (n == 7) (codes "playlist")
     (cond (n == 8) (codes "segment")
-    (codes "other")))))))))
+    (cond (n == 9) (codes "programme")
+    (codes "other"))))))))))
 
 -- the statuses of responses
 abbrev pub status_codes : List ℕ
@@ -74,6 +101,17 @@ request_metrics counts =
 
 -- ---- all of them
 
+-- of connections and sync samples
+unfoldable pub channel_part : Measured → List ℕ
+channel_part m = traffic_metrics m ++ (connection_metrics m ++ (sync_metrics m ++ unplaced_metric m))
+
+-- of the process
+unfoldable pub process_part : Measured → List ℕ
+process_part m = process_metrics m ++ (file_metrics m ++ (time_metrics m ++ clock_metrics m))
+
+-- of what was mended, kept, refused and answered
+unfoldable pub work_part : Measured → List ℕ
+work_part m = repair_metrics m ++ (journal_metrics m ++ (refusal_metrics m.refusals ++ request_metrics m.requests))
+
 unfoldable pub measured_metrics : Measured → List ℕ
-measured_metrics m =
-    traffic_metrics m ++ (sync_metrics m ++ (process_metrics m ++ (clock_metrics m ++ (repair_metrics m ++ request_metrics m.requests))))
+measured_metrics m = channel_part m ++ (process_part m ++ work_part m)

@@ -14,7 +14,7 @@ use Rattle.hls_metrics.specs.Lines.{counter, description, gauge, seconds_gauge}
 use Rattle.hls_metrics.specs.Measurements.{measured_metrics}
 use Rattle.hls_metrics.specs.declared.measured.Measured.{Measured}
 use Rattle.hls_metrics.specs.declared.rendition_metric.RenditionMetric.{RenditionMetric}
-use Rattle.hls_metrics.specs.declared.rendition_metric.RenditionMetric.TheVariants.{Begun, Finished, ReceivedBytes, MaxBytes, KeptBytes, Fragments, End, Tolerance}
+use Rattle.hls_metrics.specs.declared.rendition_metric.RenditionMetric.TheVariants.{Begun, Finished, ReceivedBytes, MaxBytes, KeptBytes, Fragments, End, Tolerance, MissedSyncs, SyncDistance, Gaps}
 
 -- ---- the channel
 
@@ -82,6 +82,9 @@ name_of KeptBytes = codes "hls_rendition_kept_bytes"
 name_of Fragments = codes "hls_rendition_fragments_total"
 name_of End = codes "hls_rendition_end_seconds"
 name_of Tolerance = codes "hls_rendition_tolerance_seconds"
+name_of MissedSyncs = codes "hls_rendition_sync_samples_missed"
+name_of SyncDistance = codes "hls_rendition_sync_distance_seconds"
+name_of Gaps = codes "hls_rendition_places_before_gap"
 
 abbrev pub help_of : RenditionMetric → List ℕ
 help_of Begun = codes "Whether the rendition has its init section."
@@ -92,6 +95,9 @@ help_of KeptBytes = codes "Bytes of fragments that are kept."
 help_of Fragments = codes "Fragments that this process accepted."
 help_of End = codes "Where the last fragment ends, on the encoders' clock."
 help_of Tolerance = codes "How far a sync sample may be from a place."
+help_of MissedSyncs = codes "The checked sync samples of rendition 0 that have none within the tolerance."
+help_of SyncDistance = codes "The greatest distance from a checked sync sample to the nearest one."
+help_of Gaps = codes "The last places before whose next one the rendition has a gap: no segment begins there."
 
 abbrev pub kind_of : RenditionMetric → List ℕ
 kind_of ReceivedBytes = codes "counter"
@@ -102,6 +108,7 @@ kind_of metric = codes "gauge"
 abbrev pub row_end : RenditionMetric → List ℕ
 row_end End = codes "e-6\n"
 row_end Tolerance = codes "e-6\n"
+row_end SyncDistance = codes "e-6\n"
 row_end metric = codes "\n"
 
 abbrev pub kind_label : Bool → List ℕ
@@ -143,49 +150,64 @@ abbrev pub is_true : Option Bool → Bool
 is_true (Some true) = true
 is_true found = false
 
+-- what was measured of rendition `r`; 0 if it wasn't
+abbrev pub number_or_zero : Option ℕ → ℕ
+number_or_zero None = 0
+number_or_zero (Some number) = number
+
+abbrev pub number_at : List ℕ → ℕ → ℕ
+number_at numbers r = number_or_zero (slice_get numbers r)
+
 -- the most bytes of a recording
 abbrev pub recording_limit : ℕ
 recording_limit = 1099511627776
 
 -- the number that a metric shows of rendition `r`; bytes that precede this process count
-abbrev pub number_of : RenditionMetric → State → ℕ → Rendition → ℕ
-number_of Begun s r rendition = number_of_bool (is_some (recording_of s r))
-number_of Finished s r rendition = number_of_bool (is_true (finished_at s r))
-number_of ReceivedBytes s r rendition = bytes_before_base s.config.base r + total_in (recording_of s r)
-number_of MaxBytes s r rendition = bytes_before_base s.config.base r + recording_limit
-number_of KeptBytes s r rendition = kept_in (recording_of s r)
-number_of Fragments s r rendition = count_in (recording_of s r)
-number_of End s r rendition = end_in (recording_of s r)
-number_of Tolerance s r rendition = rendition.tolerance
+abbrev pub number_of : RenditionMetric → State → Measured → ℕ → Rendition → ℕ
+number_of Begun s m r rendition = number_of_bool (is_some (recording_of s r))
+number_of Finished s m r rendition = number_of_bool (is_true (finished_at s r))
+number_of ReceivedBytes s m r rendition = bytes_before_base s.config.base r + total_in (recording_of s r)
+number_of MaxBytes s m r rendition = bytes_before_base s.config.base r + recording_limit
+number_of KeptBytes s m r rendition = kept_in (recording_of s r)
+number_of Fragments s m r rendition = count_in (recording_of s r)
+number_of End s m r rendition = end_in (recording_of s r)
+number_of Tolerance s m r rendition = rendition.tolerance
+number_of MissedSyncs s m r rendition = number_at m.missed_syncs r
+number_of SyncDistance s m r rendition = number_at m.sync_distances_us r
+number_of Gaps s m r rendition = number_at m.gaps r
 
-unfoldable pub rendition_row : RenditionMetric → State → ℕ → Rendition → List ℕ
-rendition_row metric s r rendition =
-    name_of metric ++ (labels r rendition ++ (decimal (number_of metric s r rendition) ++ row_end metric))
+unfoldable pub rendition_row : RenditionMetric → State → Measured → ℕ → Rendition → List ℕ
+rendition_row metric s m r rendition =
+    name_of metric ++ (labels r rendition ++ (decimal (number_of metric s m r rendition) ++ row_end metric))
 
 -- the rows of these renditions; the first one has number `r`
-abbrev pub rows_from : RenditionMetric → State → ℕ → List Rendition → List ℕ
-rows_from metric s r [] = []
-rows_from metric s r (rendition ∷ others) = rendition_row metric s r rendition ++ rows_from metric s (suc r) others
+abbrev pub rows_from : RenditionMetric → State → Measured → ℕ → List Rendition → List ℕ
+rows_from metric s m r [] = []
+rows_from metric s m r (rendition ∷ others) = rendition_row metric s m r rendition ++ rows_from metric s m (suc r) others
 
-unfoldable pub rendition_metric : RenditionMetric → State → List ℕ
-rendition_metric metric s = description (name_of metric) (kind_of metric) (help_of metric) ++ rows_from metric s 0 s.config.renditions
+unfoldable pub rendition_metric : RenditionMetric → State → Measured → List ℕ
+rendition_metric metric s m = description (name_of metric) (kind_of metric) (help_of metric) ++ rows_from metric s m 0 s.config.renditions
 
-unfoldable pub progress_metrics : State → List ℕ
-progress_metrics s =
-    rendition_metric Begun s ++ (rendition_metric Finished s ++ (rendition_metric End s ++ rendition_metric Tolerance s))
+unfoldable pub progress_metrics : State → Measured → List ℕ
+progress_metrics s m =
+    rendition_metric Begun s m ++ (rendition_metric Finished s m ++ (rendition_metric End s m ++ rendition_metric Tolerance s m))
 
-unfoldable pub amount_metrics : State → List ℕ
-amount_metrics s =
-    rendition_metric ReceivedBytes s ++ (rendition_metric MaxBytes s ++ (rendition_metric KeptBytes s ++ rendition_metric Fragments s))
+unfoldable pub amount_metrics : State → Measured → List ℕ
+amount_metrics s m =
+    rendition_metric ReceivedBytes s m ++ (rendition_metric MaxBytes s m ++ (rendition_metric KeptBytes s m ++ rendition_metric Fragments s m))
+
+-- why sync samples of rendition 0 are no places, and why no segment begins at a place
+unfoldable pub cut_metrics : State → Measured → List ℕ
+cut_metrics s m = rendition_metric MissedSyncs s m ++ (rendition_metric SyncDistance s m ++ rendition_metric Gaps s m)
 
 -- ---- the whole text
 
 unfoldable pub channel_metrics : State → ℕ → List ℕ
 channel_metrics s jobs = log_metrics s ++ (segment_metrics s ++ (window_metrics s ++ (list_metrics s ++ catchup_metrics s jobs)))
 
-unfoldable pub rendition_metrics : State → List ℕ
-rendition_metrics s = progress_metrics s ++ amount_metrics s
+unfoldable pub rendition_metrics : State → Measured → List ℕ
+rendition_metrics s m = progress_metrics s m ++ (amount_metrics s m ++ cut_metrics s m)
 
 -- of a state, the number of jobs, and what the server measured beside them
 unfoldable pub metrics_text : State → ℕ → Measured → List ℕ
-metrics_text s jobs measured = channel_metrics s jobs ++ (rendition_metrics s ++ measured_metrics measured)
+metrics_text s jobs measured = channel_metrics s jobs ++ (rendition_metrics s measured ++ measured_metrics measured)

@@ -1,8 +1,8 @@
 //! The metrics of a channel, as `GET /metrics` shows them: Prometheus' text format.
 //!
 //! [`Metrics`](../specs/Metrics.antt) defines the text: the numbers of a state, which are proved, and those that the server's threads
-//! store in [`Measurements`]. The work is bounded whatever the channel's age: some 30 numbers, eight for each rendition, and one for each
-//! route and status.
+//! store in [`Measurements`]. The work is bounded whatever the channel's age: some 60 numbers, eleven for each rendition, and one for
+//! each refusal, and for each route and status.
 #![tactic(auto)]
 
 mod channel_metrics;
@@ -10,6 +10,8 @@ mod lines;
 pub mod measured;
 mod measured_metrics;
 pub mod measurements;
+pub mod refusal_kinds;
+mod refusal_metrics;
 pub mod rendition_metric;
 mod rendition_metrics;
 pub mod request_kinds;

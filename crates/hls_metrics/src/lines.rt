@@ -114,3 +114,18 @@ pub(crate) fn push_seconds_gauge(
     push_seconds_row(out, name, us)?;
     Ok(())
 }
+
+/// Appends a metric of a time in microseconds that only rises, in seconds.
+#[tactic(auto, unfolding(crate::specs::Lines::seconds_counter))]
+pub(crate) fn push_seconds_counter(
+    out: &mut Vec<u8>,
+    name: &[u8],
+    help: &[u8],
+    us: u64,
+) -> Result<(), AllocError>
+    ensures { OnOk result (out.new.items ≡ out.old.items ++ spec.seconds_counter name.now help.now us) }
+{
+    push_description(out, name, b"counter", help)?;
+    push_seconds_row(out, name, us)?;
+    Ok(())
+}

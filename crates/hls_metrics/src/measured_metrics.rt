@@ -3,8 +3,11 @@
 ghost use Rattle.std.specs.Prelude.{◌≡◌, ◌<◌, ◌++◌, OnOk};
 ghost use Rattle.hls_metrics.specs.Measurements as spec;
 
-use crate::lines::{push_counter, push_description, push_gauge, push_seconds_gauge};
+use crate::lines::{
+    push_counter, push_description, push_gauge, push_seconds_counter, push_seconds_gauge,
+};
 use crate::measured::Measured;
+use crate::refusal_metrics::push_refusal_metrics;
 use crate::request_kinds::STATUS_CODES;
 use hls_text::push_number;
 use std::alloc::AllocError;
@@ -35,6 +38,26 @@ fn push_traffic_metrics(out: &mut Vec<u8>, measured: &Measured) -> Result<(), Al
     Ok(())
 }
 
+/// Appends the metrics of what is open and waits.
+#[tactic(auto, unfolding(crate::specs::Measurements::connection_metrics))]
+fn push_connection_metrics(out: &mut Vec<u8>, measured: &Measured) -> Result<(), AllocError>
+    ensures { OnOk result (out.new.items ≡ out.old.items ++ spec.connection_metrics measured.now) }
+{
+    push_gauge(
+        out,
+        b"hls_connections",
+        b"Connections that are open.",
+        measured.open_connections,
+    )?;
+    push_gauge(
+        out,
+        b"hls_responses_waiting",
+        b"Responses that wait for a state, a job or the journal.",
+        measured.waiting_responses,
+    )?;
+    Ok(())
+}
+
 /// Appends the metrics of sync samples.
 #[tactic(auto, unfolding(crate::specs::Measurements::sync_metrics))]
 fn push_sync_metrics(out: &mut Vec<u8>, measured: &Measured) -> Result<(), AllocError>
@@ -61,6 +84,18 @@ fn push_sync_metrics(out: &mut Vec<u8>, measured: &Measured) -> Result<(), Alloc
     Ok(())
 }
 
+/// Appends where the last sync sample begins that is no place.
+fn push_unplaced_metric(out: &mut Vec<u8>, measured: &Measured) -> Result<(), AllocError>
+    ensures { OnOk result (out.new.items ≡ out.old.items ++ spec.unplaced_metric measured.now) }
+{
+    push_seconds_gauge(
+        out,
+        b"hls_sync_sample_unplaced_seconds",
+        b"Where the last one begins that is no place, on the encoders' clock; 0 if all are.",
+        measured.unplaced_us,
+    )
+}
+
 /// Appends the metrics of the process's memory.
 #[tactic(auto, unfolding(crate::specs::Measurements::process_metrics))]
 fn push_process_metrics(out: &mut Vec<u8>, measured: &Measured) -> Result<(), AllocError>
@@ -83,6 +118,46 @@ fn push_process_metrics(out: &mut Vec<u8>, measured: &Measured) -> Result<(), Al
         b"process_virtual_memory_max_bytes",
         b"The limit of the address space; 0 if there is none.",
         measured.max_virtual_bytes,
+    )?;
+    Ok(())
+}
+
+/// Appends the metrics of the process's files.
+#[tactic(auto, unfolding(crate::specs::Measurements::file_metrics))]
+fn push_file_metrics(out: &mut Vec<u8>, measured: &Measured) -> Result<(), AllocError>
+    ensures { OnOk result (out.new.items ≡ out.old.items ++ spec.file_metrics measured.now) }
+{
+    push_gauge(
+        out,
+        b"process_open_fds",
+        b"Files and sockets that the process has open.",
+        measured.open_files,
+    )?;
+    push_gauge(
+        out,
+        b"process_max_fds",
+        b"How many it may have open.",
+        measured.max_files,
+    )?;
+    Ok(())
+}
+
+/// Appends the metrics of the process's times.
+#[tactic(auto, unfolding(crate::specs::Measurements::time_metrics))]
+fn push_time_metrics(out: &mut Vec<u8>, measured: &Measured) -> Result<(), AllocError>
+    ensures { OnOk result (out.new.items ≡ out.old.items ++ spec.time_metrics measured.now) }
+{
+    push_seconds_counter(
+        out,
+        b"process_cpu_seconds_total",
+        b"Processor time of all threads.",
+        measured.cpu_us,
+    )?;
+    push_seconds_gauge(
+        out,
+        b"process_start_time_seconds",
+        b"When the process began, since 1970.",
+        measured.started_us,
     )?;
     Ok(())
 }
@@ -133,6 +208,26 @@ fn push_repair_metrics(out: &mut Vec<u8>, measured: &Measured) -> Result<(), All
     Ok(())
 }
 
+/// Appends the metrics of the journal.
+#[tactic(auto, unfolding(crate::specs::Measurements::journal_metrics))]
+fn push_journal_metrics(out: &mut Vec<u8>, measured: &Measured) -> Result<(), AllocError>
+    ensures { OnOk result (out.new.items ≡ out.old.items ++ spec.journal_metrics measured.now) }
+{
+    push_gauge(
+        out,
+        b"hls_journal_lost",
+        b"Whether the channel continues without its journal.",
+        measured.journal_lost,
+    )?;
+    push_seconds_gauge(
+        out,
+        b"hls_journal_sync_age_seconds",
+        b"How long ago the journal was synced last; 0 without one.",
+        measured.sync_age_us,
+    )?;
+    Ok(())
+}
+
 /// Returns the name of a kind of routes.
 fn route_kind(number: usize) -> &'static [u8]
     ensures { result.now ≡ spec.route_kind number }
@@ -147,6 +242,7 @@ fn route_kind(number: usize) -> &'static [u8]
         6 => b"status",
         7 => b"playlist",
         8 => b"segment",
+        9 => b"programme",
         _ => b"other",
     }
 }
@@ -210,6 +306,42 @@ fn push_request_metrics(out: &mut Vec<u8>, counts: &[u64]) -> Result<(), AllocEr
     Ok(())
 }
 
+/// Appends the metrics of connections and sync samples.
+#[tactic(auto, unfolding(crate::specs::Measurements::channel_part))]
+fn push_channel_part(out: &mut Vec<u8>, measured: &Measured) -> Result<(), AllocError>
+    ensures { OnOk result (out.new.items ≡ out.old.items ++ spec.channel_part measured.now) }
+{
+    push_traffic_metrics(out, measured)?;
+    push_connection_metrics(out, measured)?;
+    push_sync_metrics(out, measured)?;
+    push_unplaced_metric(out, measured)?;
+    Ok(())
+}
+
+/// Appends the metrics of the process.
+#[tactic(auto, unfolding(crate::specs::Measurements::process_part))]
+fn push_process_part(out: &mut Vec<u8>, measured: &Measured) -> Result<(), AllocError>
+    ensures { OnOk result (out.new.items ≡ out.old.items ++ spec.process_part measured.now) }
+{
+    push_process_metrics(out, measured)?;
+    push_file_metrics(out, measured)?;
+    push_time_metrics(out, measured)?;
+    push_clock_metrics(out, measured)?;
+    Ok(())
+}
+
+/// Appends the metrics of what was mended, kept, refused and answered.
+#[tactic(auto, unfolding(crate::specs::Measurements::work_part))]
+fn push_work_part(out: &mut Vec<u8>, measured: &Measured) -> Result<(), AllocError>
+    ensures { OnOk result (out.new.items ≡ out.old.items ++ spec.work_part measured.now) }
+{
+    push_repair_metrics(out, measured)?;
+    push_journal_metrics(out, measured)?;
+    push_refusal_metrics(out, &measured.refusals)?;
+    push_request_metrics(out, &measured.requests)?;
+    Ok(())
+}
+
 /// Appends what a server measured.
 #[tactic(auto, unfolding(crate::specs::Measurements::measured_metrics))]
 pub(crate) fn push_measured_metrics(
@@ -218,11 +350,8 @@ pub(crate) fn push_measured_metrics(
 ) -> Result<(), AllocError>
     ensures { OnOk result (out.new.items ≡ out.old.items ++ spec.measured_metrics measured.now) }
 {
-    push_traffic_metrics(out, measured)?;
-    push_sync_metrics(out, measured)?;
-    push_process_metrics(out, measured)?;
-    push_clock_metrics(out, measured)?;
-    push_repair_metrics(out, measured)?;
-    push_request_metrics(out, &measured.requests)?;
+    push_channel_part(out, measured)?;
+    push_process_part(out, measured)?;
+    push_work_part(out, measured)?;
     Ok(())
 }

@@ -19,4 +19,10 @@ pub enum RenditionMetric {
     End,
     /// Its tolerance, in microseconds.
     Tolerance,
+    /// How many of the checked sync samples of rendition 0 have none of it within its tolerance.
+    MissedSyncs,
+    /// The greatest distance of one of these from its nearest one, in microseconds.
+    SyncDistance,
+    /// After how many of the last places it has a gap before the next one.
+    Gaps,
 }

@@ -6,6 +6,7 @@ ghost use Rattle.hls_core_laws.specs.Base.{base_limit};
 ghost use Rattle.hls_metrics.specs.Metrics as spec;
 
 use crate::lines::push_description;
+use crate::measured::Measured;
 use crate::rendition_metric::RenditionMetric;
 use hls_core::snapshot::Snapshot;
 use hls_core_laws::rendition::Rendition;
@@ -27,6 +28,9 @@ fn name_of(metric: RenditionMetric) -> &'static [u8]
         RenditionMetric::Fragments => b"hls_rendition_fragments_total",
         RenditionMetric::End => b"hls_rendition_end_seconds",
         RenditionMetric::Tolerance => b"hls_rendition_tolerance_seconds",
+        RenditionMetric::MissedSyncs => b"hls_rendition_sync_samples_missed",
+        RenditionMetric::SyncDistance => b"hls_rendition_sync_distance_seconds",
+        RenditionMetric::Gaps => b"hls_rendition_places_before_gap",
     }
 }
 
@@ -43,6 +47,15 @@ fn help_of(metric: RenditionMetric) -> &'static [u8]
         RenditionMetric::Fragments => b"Fragments that this process accepted.",
         RenditionMetric::End => b"Where the last fragment ends, on the encoders' clock.",
         RenditionMetric::Tolerance => b"How far a sync sample may be from a place.",
+        RenditionMetric::MissedSyncs => {
+            b"The checked sync samples of rendition 0 that have none within the tolerance."
+        }
+        RenditionMetric::SyncDistance => {
+            b"The greatest distance from a checked sync sample to the nearest one."
+        }
+        RenditionMetric::Gaps => {
+            b"The last places before whose next one the rendition has a gap: no segment begins there."
+        }
     }
 }
 
@@ -61,7 +74,9 @@ fn row_end(metric: RenditionMetric) -> &'static [u8]
     ensures { result.now ≡ spec.row_end metric }
 {
     match metric {
-        RenditionMetric::End | RenditionMetric::Tolerance => b"e-6\n",
+        RenditionMetric::End | RenditionMetric::Tolerance | RenditionMetric::SyncDistance => {
+            b"e-6\n"
+        }
         _ => b"\n",
     }
 }
@@ -152,14 +167,25 @@ fn last_end_us(recording: Option<&Recording>) -> u64
     }
 }
 
+/// Returns what was measured of a rendition; 0 if it wasn't.
+fn number_at(numbers: &[u64], number: usize) -> u64
+    ensures { result ≡ spec.number_at numbers.now number }
+{
+    match numbers.get(number) {
+        None => 0,
+        Some(found) => *found,
+    }
+}
+
 /// Returns the number that a metric shows of a rendition.
 fn number_of(
     metric: RenditionMetric,
     snapshot: &Snapshot,
+    measured: &Measured,
     number: usize,
     rendition: &Rendition,
 ) -> u64
-    ensures { result ≡ spec.number_of metric snapshot.now number rendition.now }
+    ensures { result ≡ spec.number_of metric snapshot.now measured.now number rendition.now }
 {
     let recording = snapshot.recording(number);
     let before = snapshot.config().base().bytes(number);
@@ -172,6 +198,9 @@ fn number_of(
         RenditionMetric::Fragments => fragment_count(recording),
         RenditionMetric::End => last_end_us(recording),
         RenditionMetric::Tolerance => rendition.tolerance,
+        RenditionMetric::MissedSyncs => number_at(&measured.missed_syncs, number),
+        RenditionMetric::SyncDistance => number_at(&measured.sync_distances_us, number),
+        RenditionMetric::Gaps => number_at(&measured.gaps, number),
     }
 }
 
@@ -181,14 +210,18 @@ fn push_rendition_row(
     out: &mut Vec<u8>,
     metric: RenditionMetric,
     snapshot: &Snapshot,
+    measured: &Measured,
     number: usize,
     rendition: &Rendition,
 ) -> Result<(), AllocError>
-    ensures { OnOk result (out.new.items ≡ out.old.items ++ spec.rendition_row metric snapshot.now number rendition.now) }
+    ensures { OnOk result (out.new.items ≡ out.old.items ++ spec.rendition_row metric snapshot.now measured.now number rendition.now) }
 {
     out.extend_from_slice(name_of(metric))?;
     push_labels(out, number, rendition)?;
-    push_number(out, number_of(metric, snapshot, number, rendition))?;
+    push_number(
+        out,
+        number_of(metric, snapshot, measured, number, rendition),
+    )?;
     out.extend_from_slice(row_end(metric))?;
     Ok(())
 }
@@ -199,11 +232,18 @@ fn push_rendition_metric(
     out: &mut Vec<u8>,
     metric: RenditionMetric,
     snapshot: &Snapshot,
+    measured: &Measured,
 ) -> Result<(), AllocError>
-    ensures { OnOk result (out.new.items ≡ out.old.items ++ spec.rendition_metric metric snapshot.now) }
+    ensures { OnOk result (out.new.items ≡ out.old.items ++ spec.rendition_metric metric snapshot.now measured.now) }
 {
     push_description(out, name_of(metric), kind_of(metric), help_of(metric))?;
-    push_rows(out, metric, snapshot, snapshot.config().renditions())?;
+    push_rows(
+        out,
+        metric,
+        snapshot,
+        measured,
+        snapshot.config().renditions(),
+    )?;
     Ok(())
 }
 
@@ -212,37 +252,61 @@ fn push_rows(
     out: &mut Vec<u8>,
     metric: RenditionMetric,
     snapshot: &Snapshot,
+    measured: &Measured,
     renditions: &[Rendition],
 ) -> Result<(), AllocError>
-    ensures { OnOk result (out.new.items ≡ out.old.items ++ spec.rows_from metric snapshot.now 0 renditions.now) }
+    ensures { OnOk result (out.new.items ≡ out.old.items ++ spec.rows_from metric snapshot.now measured.now 0 renditions.now) }
 {
     for (number, rendition) in renditions.iter().enumerate() {
-        push_rendition_row(out, metric, snapshot, number, rendition)?;
+        push_rendition_row(out, metric, snapshot, measured, number, rendition)?;
     }
     Ok(())
 }
 
 /// Appends the metrics of how far each rendition is.
 #[tactic(auto, unfolding(crate::specs::Metrics::progress_metrics))]
-fn push_progress_metrics(out: &mut Vec<u8>, snapshot: &Snapshot) -> Result<(), AllocError>
-    ensures { OnOk result (out.new.items ≡ out.old.items ++ spec.progress_metrics snapshot.now) }
+fn push_progress_metrics(
+    out: &mut Vec<u8>,
+    snapshot: &Snapshot,
+    measured: &Measured,
+) -> Result<(), AllocError>
+    ensures { OnOk result (out.new.items ≡ out.old.items ++ spec.progress_metrics snapshot.now measured.now) }
 {
-    push_rendition_metric(out, RenditionMetric::Begun, snapshot)?;
-    push_rendition_metric(out, RenditionMetric::Finished, snapshot)?;
-    push_rendition_metric(out, RenditionMetric::End, snapshot)?;
-    push_rendition_metric(out, RenditionMetric::Tolerance, snapshot)?;
+    push_rendition_metric(out, RenditionMetric::Begun, snapshot, measured)?;
+    push_rendition_metric(out, RenditionMetric::Finished, snapshot, measured)?;
+    push_rendition_metric(out, RenditionMetric::End, snapshot, measured)?;
+    push_rendition_metric(out, RenditionMetric::Tolerance, snapshot, measured)?;
     Ok(())
 }
 
 /// Appends the metrics of how much each rendition has.
 #[tactic(auto, unfolding(crate::specs::Metrics::amount_metrics))]
-fn push_amount_metrics(out: &mut Vec<u8>, snapshot: &Snapshot) -> Result<(), AllocError>
-    ensures { OnOk result (out.new.items ≡ out.old.items ++ spec.amount_metrics snapshot.now) }
+fn push_amount_metrics(
+    out: &mut Vec<u8>,
+    snapshot: &Snapshot,
+    measured: &Measured,
+) -> Result<(), AllocError>
+    ensures { OnOk result (out.new.items ≡ out.old.items ++ spec.amount_metrics snapshot.now measured.now) }
 {
-    push_rendition_metric(out, RenditionMetric::ReceivedBytes, snapshot)?;
-    push_rendition_metric(out, RenditionMetric::MaxBytes, snapshot)?;
-    push_rendition_metric(out, RenditionMetric::KeptBytes, snapshot)?;
-    push_rendition_metric(out, RenditionMetric::Fragments, snapshot)?;
+    push_rendition_metric(out, RenditionMetric::ReceivedBytes, snapshot, measured)?;
+    push_rendition_metric(out, RenditionMetric::MaxBytes, snapshot, measured)?;
+    push_rendition_metric(out, RenditionMetric::KeptBytes, snapshot, measured)?;
+    push_rendition_metric(out, RenditionMetric::Fragments, snapshot, measured)?;
+    Ok(())
+}
+
+/// Appends the metrics of why sync samples are no places, and why no segment begins at a place.
+#[tactic(auto, unfolding(crate::specs::Metrics::cut_metrics))]
+fn push_cut_metrics(
+    out: &mut Vec<u8>,
+    snapshot: &Snapshot,
+    measured: &Measured,
+) -> Result<(), AllocError>
+    ensures { OnOk result (out.new.items ≡ out.old.items ++ spec.cut_metrics snapshot.now measured.now) }
+{
+    push_rendition_metric(out, RenditionMetric::MissedSyncs, snapshot, measured)?;
+    push_rendition_metric(out, RenditionMetric::SyncDistance, snapshot, measured)?;
+    push_rendition_metric(out, RenditionMetric::Gaps, snapshot, measured)?;
     Ok(())
 }
 
@@ -251,10 +315,12 @@ fn push_amount_metrics(out: &mut Vec<u8>, snapshot: &Snapshot) -> Result<(), All
 pub(crate) fn push_rendition_metrics(
     out: &mut Vec<u8>,
     snapshot: &Snapshot,
+    measured: &Measured,
 ) -> Result<(), AllocError>
-    ensures { OnOk result (out.new.items ≡ out.old.items ++ spec.rendition_metrics snapshot.now) }
+    ensures { OnOk result (out.new.items ≡ out.old.items ++ spec.rendition_metrics snapshot.now measured.now) }
 {
-    push_progress_metrics(out, snapshot)?;
-    push_amount_metrics(out, snapshot)?;
+    push_progress_metrics(out, snapshot, measured)?;
+    push_amount_metrics(out, snapshot, measured)?;
+    push_cut_metrics(out, snapshot, measured)?;
     Ok(())
 }

@@ -23,7 +23,7 @@ pub fn write_metrics(
 {
     let mut out = Vec::new(alloc);
     push_channel_metrics(&mut out, snapshot, jobs)?;
-    push_rendition_metrics(&mut out, snapshot)?;
+    push_rendition_metrics(&mut out, snapshot, measured)?;
     push_measured_metrics(&mut out, measured)?;
     Ok(out)
 }

@@ -4,11 +4,11 @@ use Rattle.clap.specs.Words.{Text}
 use Rattle.hls_settings.specs.ReadSettings.{ReadsSettings}
 use Rattle.hls_settings.specs.declared.fault.SettingsFault.TheVariants as faults
 use Rattle.hls_settings.specs.FileArguments.{journal_argument}
-use Rattle.hls_settings.specs.JournalSettings.{sync_setting_of}
-use Rattle.hls_settings.specs.declared.journal_settings.SyncSetting.{SyncSetting}
+use Rattle.hls_settings.specs.JournalSettings.{journal_settings_of}
+use Rattle.hls_settings.specs.declared.journal_settings.JournalSettings.{JournalSettings}
 use Rattle.hls_settings.specs.declared.settings.Settings.{Settings}
 use Rattle.hls_origin.specs.declared.serve.run.ServeEnd.{ServeEnd}
-use Rattle.hls_origin.specs.declared.serve.run.ServeEnd.TheVariants.{Done, Usage, Base, Sync, NoFolder, OtherJournal, JournalFailed, BindFailed, Memory}
+use Rattle.hls_origin.specs.declared.serve.run.ServeEnd.TheVariants.{Done, Usage, Base, Journal, NoFolder, OtherJournal, JournalFailed, BindFailed, Memory}
 
 -- arguments that specify settings
 abbrev pub AreSettings : List Text → Type 0
@@ -16,7 +16,7 @@ AreSettings arguments = (settings : Settings) × ReadsSettings arguments (Ok set
 
 -- .. and valid options of a journal
 abbrev pub HasJournal : List Text → Type 0
-HasJournal arguments = AreSettings arguments × (sync : SyncSetting) × (sync_setting_of arguments ≡ Ok sync)
+HasJournal arguments = AreSettings arguments × (journal : JournalSettings) × (journal_settings_of arguments ≡ Ok journal)
 
 -- how it ends once the channel has a state
 abbrev pub IsServed : ServeEnd → Type 0
@@ -31,7 +31,7 @@ abbrev pub EndsServe : List Text → ServeEnd → Type 0
 EndsServe arguments Done = AreSettings arguments
 EndsServe arguments BindFailed = AreSettings arguments
 EndsServe arguments (Base fault) = AreSettings arguments
-EndsServe arguments (Sync fault) = AreSettings arguments × (sync_setting_of arguments ≡ Err fault)
+EndsServe arguments (Journal fault) = AreSettings arguments × (journal_settings_of arguments ≡ Err fault)
 EndsServe arguments NoFolder = HasJournal arguments × (journal_argument arguments ≡ Some [])
 EndsServe arguments OtherJournal = HasJournal arguments
 EndsServe arguments JournalFailed = HasJournal arguments

@@ -43,7 +43,7 @@ abbrev pub serve_status : ServeEnd → ℕ
 serve_status serve.Done = 0
 serve_status (serve.Usage fault) = usage_status
 serve_status (serve.Base fault) = usage_status
-serve_status (serve.Sync fault) = usage_status
+serve_status (serve.Journal fault) = usage_status
 serve_status serve.NoFolder = usage_status
 serve_status serve.OtherJournal = usage_status
 serve_status serve.JournalFailed = 1

@@ -34,6 +34,11 @@ fn write_channel_fault<W: Write>(f: &mut Formatter<W>, fault: &JournalFault) -> 
             field,
             journal,
             given,
+        } if journal == given => write!(f, "JournalOther: other {}", field_name(*field)),
+        JournalFault::JournalOther {
+            field,
+            journal,
+            given,
         } => write!(
             f,
             "JournalOther: {} {journal}, not {given}",
@@ -92,7 +97,7 @@ impl Display for ReportLines {
     }
 }
 
-/// Whether a start restores the channel, as far as the folder shows without its configuration. After a power loss a start drops the
+/// Whether a start restores the channel, as far as the folder shows that without the arguments. After a power loss a start drops the
 /// records from the first missing unit on.
 fn is_restorable(report: StoreReport) -> bool {
     !report.is_marked && report.records > 0 && (report.missing == 0 || report.may_lack)

@@ -76,7 +76,7 @@ cut: the playlist of a recorded stream of one rendition, fragmented MP4
   --each         one segment for each place where the stream may be cut (the default)
   --preferred N  a least plan: segments whose lengths come nearest to N microseconds in sum; N is 1 to
                  the target, at most 16 digits
-  --charge N     what each segment costs beside that, so that a greater N gives fewer and longer ones; N is
+  --charge N     a cost added for each segment, so that a greater N gives fewer and longer ones; N is
                  0 to 3600000000 microseconds, at most 16 digits; it needs --preferred
   --certificate  the plan's certificate in place of the playlist; it needs --preferred
   --target N     the target duration in whole seconds, 1 to 3600, at most 16 digits; 6 if not given
@@ -85,15 +85,16 @@ cut: the playlist of a recorded stream of one rendition, fragmented MP4
   --epoch TEXT   the instant of time 0, 1970 to 9000, as in 2024-01-01T00:00:00Z or
                  2024-01-01T01:00:00.5+01:00: each segment has its date then
 check: whether a certificate proves that its plan is least
-lint: what a media playlist is, or which line of it is wrong
+lint: a summary of a media playlist, or its first wrong line and the reason
 explain: what a refusal's name means, and what to change; without NAME, all names
 serve: a live channel over HTTP; encoders PUT to /ingest/0, /ingest/1, .. and players read
-       /live/master.m3u8. ADDRESS is a.b.c.d:port, and each SPEC is name:kind:bandwidth:tolerance, where
+       /hls/master.m3u8. ADDRESS is a.b.c.d:port, and each SPEC is name:kind:bandwidth:tolerance, where
        kind is video or audio, bandwidth is in bits a second and tolerance in microseconds
   --target N     the longest segment in whole seconds, 1 to 3600; 6 if not given
   --preferred N  the length in microseconds at which a segment ends, 1 to the target; 4000000
   --window N     what live lists hold in microseconds, three targets or more; 30000000
   --keep N       what is kept for catch-up in microseconds, the window or more; 3600000000
+  --live N       what /hls/R.m3u8 shows in microseconds, three targets to the window; the window
   --epoch TEXT   the instant of time 0 of the encoders' clock, 1970 to 9000, as in
                  2024-01-01T00:00:00Z: each segment has its date then, and catch-up takes instants
   --workers N    threads that serve connections, 1 to 63; 8
@@ -106,25 +107,31 @@ serve: a live channel over HTTP; encoders PUT to /ingest/0, /ingest/1, .. and pl
   --journal FOLDER  where the channel is kept: a start continues the one that the folder has
   --sync MODE    when the journal is synced to its disk: never, each (before each response), or a number of
                  milliseconds, 1 to 60000; 1000
-  --base FILE    what precedes: the base at which the channel continues another process's; its run is the
-                 channel's
+  --journal-lost go-on|refuse  once the journal is lost, the channel continues without it, or encoders get
+                 503; go-on
+  --anew         an empty recording: its lists continue those of the folder's channel after a discontinuity,
+                 with other init sections or renditions
+  --base FILE    the base from which the channel continues another process's: what precedes it, and its run,
+                 which becomes the channel's
   --mend         make the units of each rendition contiguous: move starts, fill gaps, drop what overlaps
   --snap N       with --mend, the most microseconds by which a start is moved, 0 to 250000; 5000
   --fill N       with --mend, the longest gap that is filled, in microseconds, 0 to 3600000000; 10000000
   --wait N       with --mend, how many seconds an encoder may be silent before its rendition is filled up to
-                 the others, 1 to 3600; 5
+                 the others, and these may jump without it, 1 to 3600; 5
+  --job-life N   after how many seconds without a request a finished job is removed, 1 to 86400; not at all
+                 if not given
 size: how much memory serve with these arguments needs, in MiB, and the limits of its service
 journal: what the folder of a journal holds, and whether a start restores it; --close syncs a folder whose
        server has ended
-Each option may stand once, after its command; --each excludes --preferred and --certificate. No word
-may follow check or lint.
+Each option may be given once, after its command; --each excludes --preferred and --certificate. check and
+lint take no arguments.
 
 An example: a channel of one rendition, one encoder, one player.
   hls_origin serve 127.0.0.1:8080 v720:video:3000000:0 &
   ffmpeg -nostdin -re -f lavfi -i testsrc=s=1280x720:r=25 -c:v libx264 -pix_fmt yuv420p -g 50 \\
          -sc_threshold 0 -f mp4 -movflags +frag_keyframe+delay_moov+default_base_moof \\
          -method PUT http://127.0.0.1:8080/ingest/0 &
-  sleep 15; ffplay http://127.0.0.1:8080/live/master.m3u8
+  sleep 15; ffplay http://127.0.0.1:8080/hls/master.m3u8
 ";
 
 /// Returns the arguments, without the program's own name.
@@ -328,6 +335,7 @@ fn run_journal_command(rt: &HostRuntime, arguments: &[String]) -> ExitCode {
     };
     let folder = match words {
         [] => return print_no_folder(rt),
+        [folder, ..] if folder.as_str().is_empty() => return print_no_folder(rt),
         [folder] if !folder.as_str().starts_with("-") => folder.as_str(),
         [folder, rest @ ..] if !folder.as_str().starts_with("-") => {
             return print_usage_fault(rt, rest);
@@ -361,7 +369,7 @@ fn end_serve(rt: &HostRuntime, arguments: &[String], end: ServeEnd) -> ExitCode
             let _ = eprint!(rt; "serve: {fault}; hls_origin --help says more\n{SERVE_USAGE}");
             ExitCode::from(2)
         }
-        ServeEnd::Sync(fault) => {
+        ServeEnd::Journal(fault) => {
             let _ = eprint!(rt; "serve: {fault}; hls_origin --help says more\n{SERVE_USAGE}");
             ExitCode::from(2)
         }

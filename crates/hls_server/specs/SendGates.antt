@@ -1,5 +1,5 @@
 -- Bytes that are held back until the state that they were made of is durable.
-use Rattle.std.specs.Prelude.{◌≡◌, ◌⊎◌, ◌≤◌, ◌||◌, ℕ, Bool, false, List, [], ◌∷◌, length, cond, nat_lt, Option, None}
+use Rattle.std.specs.Prelude.{◌≡◌, ◌⊎◌, ◌≤◌, ◌-◌, ◌&&◌, ◌||◌, ℕ, Bool, false, List, [], ◌∷◌, length, cond, nat_lt, Option, None}
 use Rattle.hls_api.specs.Types.{State}
 use Rattle.hls_server.specs.declared.send_gate.SendGate.{SendGate}
 use Rattle.hls_server.specs.declared.send_gate.NeededPoint.{NeededPoint}
@@ -8,9 +8,13 @@ use Rattle.hls_server.specs.declared.send_gate.NeededPoint.{NeededPoint}
 abbrev pub is_closed : SendGate → Bool
 is_closed gate = nat_lt gate.durable.version gate.needed.version || nat_lt gate.durable.round gate.needed.round
 
--- bytes are held back: there are some, and the gate is closed
+-- an encoder's body isn't read: the journal is more than 1024 versions behind what was seen
+abbrev pub is_behind : SendGate → Bool
+is_behind gate = gate.is_receiving && nat_lt 1024 (gate.needed.version - gate.durable.version)
+
+-- a connection is held: there are bytes to send and the gate is closed, or there are none and a body isn't read
 abbrev pub holds_back : SendGate → List ℕ → Bool
-holds_back gate [] = false
+holds_back gate [] = is_behind gate
 holds_back gate (byte ∷ bytes) = is_closed gate
 
 -- the bytes that may be sent
@@ -21,10 +25,10 @@ released gate bytes = cond (holds_back gate bytes) [] bytes
 abbrev pub unless_held : {A : Type 0} → SendGate → List ℕ → Option A → Option A
 unless_held gate bytes end = cond (holds_back gate bytes) None end
 
--- What must be durable covers the state that was seen: at least its version; else a round that hadn't begun must end, which looks at a
--- later state.
+-- What must be durable covers the state that was seen, unless what was made is exempt: at least its version; else a round that hadn't
+-- begun must end, which looks at a later state.
 abbrev pub Covers : State → NeededPoint → Type 0
-Covers seen needed = needed.round ≡ 0 → length seen.log ≤ needed.version
+Covers seen needed = needed.is_exempt ≡ false → needed.round ≡ 0 → length seen.log ≤ needed.version
 
 -- nothing more was seen and the same is needed, or what is needed covers what was seen
 abbrev pub KeepsCovered : State → NeededPoint → State → NeededPoint → Type 0

@@ -1,4 +1,4 @@
-//! How far the states of a channel are durable, as the follower of its journal publishes it; and the bell that wakes the follower.
+//! How far the states of a channel are durable, as the follower of its journal publishes it; and what wakes the follower.
 
 ghost use Rattle.std.specs.Prelude.{◌≤◌};
 
@@ -15,20 +15,22 @@ pub struct DurablePoint {
 
 /// How far a channel's journal is durable. Without a journal every state counts as durable.
 ///
-/// A round of the follower is a look at the state, and writing what is new. A round that begins later looks at a state that has all
-/// earlier events.
+/// In a round the follower looks at the state and writes what is new. A round looks at a state with all events that were submitted before
+/// it began.
 #[derive(Drop)]
 pub struct Durability {
     version: AtomicU64,
     /// How many rounds have begun.
     begun: AtomicU64,
-    /// Up to which round all have ended.
+    /// The last round that has ended, as have all before it.
     ended: AtomicU64,
+    /// Since when the follower is at work, in milliseconds of the monotonic clock; 0 while it waits.
+    busy_since_ms: AtomicU64,
     /// Whether the follower was called since it last began to look.
     is_called: AtomicBool,
-    /// The same, for the follower's wait.
-    bell: Mutex<bool>,
-    rung: Condvar,
+    /// Whether a call waits to be noticed by the follower, which sleeps on `called`.
+    call: Mutex<bool>,
+    called: Condvar,
 }
 
 impl Durability {
@@ -42,9 +44,10 @@ impl Durability {
             version: AtomicU64::new(version),
             begun: AtomicU64::new(0),
             ended: AtomicU64::new(ended),
+            busy_since_ms: AtomicU64::new(0),
             is_called: AtomicBool::new(false),
-            bell: Mutex::new(false),
-            rung: Condvar::new(),
+            call: Mutex::new(false),
+            called: Condvar::new(),
         }
     }
 
@@ -66,21 +69,35 @@ impl Durability {
     /// Calls the follower, unless it was called already. May wait.
     pub fn call<R: Wait>(&self, rt: &R) {
         if !self.is_called.swap(true, Ordering::SeqCst) {
-            *self.bell.lock(rt) = true;
-            self.rung.notify_all();
+            *self.call.lock(rt) = true;
+            self.called.notify_all();
         }
     }
 
     /// Waits until the follower is called, at most for the given number of milliseconds.
     pub fn wait_called<R: Wait + Clock>(&self, rt: &R, most_ms: u64) {
         let most = Duration::from_millis(most_ms);
-        let (mut is_rung, _) = self
-            .rung
-            .wait_timeout_while(rt, self.bell.lock(rt), most, |is_rung| !*is_rung);
-        *is_rung = false;
+        let (mut has_call, _) = self
+            .called
+            .wait_timeout_while(rt, self.call.lock(rt), most, |has_call| !*has_call);
+        *has_call = false;
     }
 
-    /// Begins a round, and returns its number. What calls the follower from now on is of the next one.
+    /// Notes that the follower is at work from a moment of the monotonic clock on, in milliseconds, or waits from now on.
+    pub fn note_work(&self, since_ms: Option<u64>) {
+        let since_ms = since_ms.map_or(0, |since_ms| since_ms.max(1));
+        self.busy_since_ms.store(since_ms, Ordering::SeqCst);
+    }
+
+    /// Returns for how long the follower has been at work, in milliseconds; 0 while it waits.
+    pub fn busy_ms(&self, now_ms: u64) -> u64 {
+        match self.busy_since_ms.load(Ordering::SeqCst) {
+            0 => 0,
+            since_ms => now_ms.saturating_sub(since_ms),
+        }
+    }
+
+    /// Begins a round, and returns its number. Calls from now on are for the next one.
     pub fn begin_round(&self) -> u64 {
         self.is_called.store(false, Ordering::SeqCst);
         self.begun.fetch_add(1, Ordering::SeqCst).saturating_add(1)
@@ -92,7 +109,7 @@ impl Durability {
         self.ended.store(round, Ordering::SeqCst);
     }
 
-    /// Has every state count as durable, since nothing more is written.
+    /// Makes every state count as durable, since nothing more is written.
     pub fn give_up(&self) {
         self.end_round(u64::MAX, u64::MAX);
     }

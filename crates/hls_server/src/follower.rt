@@ -11,11 +11,11 @@ use hls_metrics::measurements::store;
 use hls_time::monotonic_ms;
 use hls_turn::{Pass, Turn};
 use std::alloc::Global;
-use std::sync::Wait;
+use std::sync::{Arc, Wait};
 use std::thread;
 use std::time::{Clock, Duration};
 
-/// How long the follower waits to be called, in milliseconds; a slide or a trim calls nobody.
+/// How long the follower waits for a call, in milliseconds. Slides and trims don't call it, so it also looks by itself.
 const LONGEST_WAIT_MS: u64 = 1000;
 
 /// The retry interval after a fault that passes, in milliseconds.
@@ -44,8 +44,11 @@ pub trait StateFollower {
     /// Marks the journal as incomplete, since the channel continues without it.
     fn abandon(&mut self);
 
-    /// Closes the journal; the snapshot is the last state.
-    fn close(&mut self, snapshot: &Snapshot);
+    /// Whether the server is to end after this state, so that the channel begins a new log.
+    fn wants_end(&mut self, snapshot: &Snapshot) -> bool;
+
+    /// The server has ended: closes the journal, if it isn't abandoned. The snapshot is the last state.
+    fn close(&mut self, snapshot: Arc<Snapshot>);
 }
 
 /// A follower that writes nothing: each state that it was given counts as durable.
@@ -63,7 +66,11 @@ impl StateFollower for NoFollower {
 
     fn abandon(&mut self) {}
 
-    fn close(&mut self, _snapshot: &Snapshot) {}
+    fn wants_end(&mut self, _snapshot: &Snapshot) -> bool {
+        false
+    }
+
+    fn close(&mut self, _snapshot: Arc<Snapshot>) {}
 }
 
 /// What the follower works with.
@@ -76,6 +83,8 @@ pub(crate) struct FollowerContext<'a> {
     pub measurements: &'a Measurements,
     /// How often it is synced, in milliseconds, if it is by time.
     pub sync_interval_ms: Option<u64>,
+    /// Whether encoders are refused once the journal is lost.
+    pub refuses_if_lost: bool,
 }
 
 impl<'a> FollowerContext<'a> {
@@ -103,6 +112,15 @@ impl<'a> FollowerContext<'a> {
         );
     }
 
+    /// Stores when the journal was synced last: by time, or with what was written last.
+    fn note_synced<R: Clock>(&self, rt: &R, synced_ms: u64) {
+        let synced_ms = match self.sync_interval_ms {
+            Some(_) => synced_ms,
+            None => monotonic_ms(rt),
+        };
+        store(&self.measurements.journal_synced_ms, synced_ms);
+    }
+
     /// Looks at the state and writes it, or closes the journal with it. Returns when the journal was synced last; `None` once it is
     /// closed.
     fn run_round<R: Wait + Clock, F: StateFollower>(
@@ -121,19 +139,47 @@ impl<'a> FollowerContext<'a> {
             return Err(FollowFault::Retry);
         };
         if is_closed {
-            follower.close(&snapshot);
+            follower.close(snapshot);
             return Ok(None);
         }
         self.follow(follower, round, &snapshot)?;
         let now = monotonic_ms(rt);
+        if follower.wants_end(&snapshot) {
+            self.worker_loads.end(now);
+        }
         Ok(Some(sync_when_due(follower, self.sync_interval_ms, synced_ms, now)?))
     }
 
-    /// Continues without a journal: nothing is held back any more.
+    /// Continues without a journal: nothing is held back any more, and encoders are refused if that is asked for.
     fn abandon<F: StateFollower>(&self, follower: &mut F) {
+        if self.refuses_if_lost {
+            self.turn.refuse_encoders();
+        }
         follower.abandon();
+        store(&self.measurements.journal_lost, 1);
         self.durability.give_up();
         self.worker_loads.wake_waiting();
+    }
+}
+
+/// Waits until the server has ended, and gives the last state to a follower that is abandoned. May wait.
+fn await_end<R: Wait + Clock, F: StateFollower, H: ServerStatus>(
+    rt: &R,
+    context: FollowerContext<'_>,
+    follower: &mut F,
+    status: &H,
+    pass: &mut Pass,
+)
+    requires { pass.old.turn ≡ context.turn.now }
+{
+    for _ in rt.forever() {
+        if status.is_closed() {
+            if let Ok(snapshot) = context.turn.look(rt, context.alloc, pass) {
+                follower.close(snapshot);
+                return;
+            }
+        }
+        context.durability.wait_called(rt, LONGEST_WAIT_MS);
     }
 }
 
@@ -153,7 +199,7 @@ fn sync_when_due<F: StateFollower>(
     }
 }
 
-/// Whether the channel continues without its journal after this number of failures in a row, of which this is the last.
+/// Whether the channel continues without its journal after this number of failures in a row, the last of which is this one.
 fn is_final(fault: FollowFault, failures: u64) -> bool {
     matches!(fault, FollowFault::Lost) || failures >= MOST_FAILURES
 }
@@ -176,9 +222,13 @@ pub(crate) fn run_follower<R: Wait + Clock, F: StateFollower, H: ServerStatus>(
             .durability
             .wait_called(rt, interval_ms.min(LONGEST_WAIT_MS));
         let is_closed = status.is_closed();
-        match context.run_round(rt, follower, pass, synced_ms, is_closed) {
+        context.durability.note_work(Some(monotonic_ms(rt)));
+        let round = context.run_round(rt, follower, pass, synced_ms, is_closed);
+        context.durability.note_work(None);
+        match round {
             Ok(Some(at)) => {
                 synced_ms = at;
+                context.note_synced(rt, at);
                 failures = 0;
             }
             Ok(None) => return,
@@ -186,7 +236,7 @@ pub(crate) fn run_follower<R: Wait + Clock, F: StateFollower, H: ServerStatus>(
                 failures = failures.saturating_add(1);
                 if is_final(fault, failures) {
                     context.abandon(follower);
-                    return;
+                    return await_end(rt, context, follower, status, pass);
                 }
                 let _ = thread::sleep(rt, Duration::from_millis(RETRY_MS));
                 context.durability.call(rt);

@@ -8,21 +8,23 @@ ghost use Rattle.hls_connection.specs.Connections.{IsStatus, IsIdleOrBlocked, Ke
 ghost use Rattle.hls_server.specs.{HistoryGrowth.{serves_on, serves_nothing}, HandlerConnections.{HasStage, IsHeld, ServesHeld, socket_end, unsent}, SendGates.{Covers, unless_held}};
 
 use crate::durability::Durability;
+use crate::log_lines::refusal_name;
 use crate::logged_connection::{AccessRecord, LoggedConnection};
 use crate::observer::{ClientObserver, log_slow_response};
 use crate::request_counts::kind_of_request;
 use crate::send_gate::SendGate;
 use crate::watched_handle::WatchedHandle;
+use hls_api::ingest::IngestStop;
 use hls_api::route::Route;
 use hls_connection::connection::Connection;
 use hls_connection::events::IngestReport;
 use hls_connection::laws::suits_is_stable;
+use hls_core::StreamFault;
 use hls_event_loop::{ConnectionEnd, ConnectionStage, Handler, WorkerLoads};
 use hls_housekeeper::{LogThrottle, log_failed_accept, may_log};
-use hls_http::response_parts::out_of_memory_text;
+use hls_http::response_parts::{Status, out_of_memory_text};
 use hls_http::{Method, SessionEnd};
-use hls_mend::EncoderSigns;
-use hls_metrics::measurements::add;
+use hls_metrics::measurements::{add, subtract};
 use hls_settings::Settings;
 use hls_time::monotonic_ms;
 use std::alloc::Global;
@@ -32,8 +34,8 @@ use std::net::SocketAddr;
 use std::sync::Wait;
 use std::time::Clock;
 
-/// A turn that made a response is logged from this time on, in milliseconds: the worker's other connections have waited for it. A long
-/// text is made in many turns.
+/// A turn that made a response is logged if it took at least this long, in milliseconds, since the worker's other connections waited for
+/// it. A long text is made in many turns.
 const SLOW_MS: u64 = 50;
 
 /// Serves the connections of a worker by a handle of the channel, and logs their requests.
@@ -47,9 +49,7 @@ pub struct ServerHandler<'a, R: Wait> {
     /// The names of the renditions, and whether each request is logged.
     pub settings: &'a Settings,
     pub throttle: &'a LogThrottle,
-    /// Where signs of life of encoders are noted.
-    pub signs: &'a EncoderSigns,
-    /// By which waiting responses are woken.
+    /// What the workers know of each other; it wakes waiting responses.
     pub worker_loads: &'a WorkerLoads,
     /// How many responses of this worker wait.
     pub waiting: Cell<u64>,
@@ -58,9 +58,10 @@ pub struct ServerHandler<'a, R: Wait> {
 }
 
 impl<'a, R: Wait> ServerHandler<'a, R> {
-    /// The time for a connection's turn; none where its response may not begin to wait, since too many do.
+    /// Returns the time for a connection's turn; `None` if its response may not wait: too many do, or the workers are to end.
     fn time_to_wait(&self, logged: &LoggedConnection, now: u64) -> Option<u64> {
-        if logged.connection.is_waiting() || self.waiting.get() < self.most_waiting {
+        let may_wait = logged.connection.is_waiting() || self.waiting.get() < self.most_waiting;
+        if may_wait && !self.worker_loads.is_ending() {
             Some(now)
         } else {
             None
@@ -70,9 +71,16 @@ impl<'a, R: Wait> ServerHandler<'a, R> {
     /// Counts a response that begins to wait, or ends its wait.
     fn count_waiting(&self, waited: bool, waits: bool) {
         let waiting = self.waiting.get();
+        let all = &self.handle.handle.channel.measurements.waiting_responses;
         match (waited, waits) {
-            (false, true) => self.waiting.set(waiting.saturating_add(1)),
-            (true, false) => self.waiting.set(waiting.saturating_sub(1)),
+            (false, true) => {
+                self.waiting.set(waiting.saturating_add(1));
+                add(all, 1);
+            }
+            (true, false) => {
+                self.waiting.set(waiting.saturating_sub(1));
+                subtract(all, 1);
+            }
             _ => {}
         }
     }
@@ -99,7 +107,7 @@ impl<'a, R: Wait> ServerHandler<'a, R> {
         }
     }
 
-    /// Wakes responses that wait for a job, where one may have been removed in this turn.
+    /// Wakes responses that wait for a job, if one may have been removed in this turn.
     fn wake_after_removal(&self, client: &ClientObserver<'a, R>) {
         match client.access_line.get() {
             Some(access_line) if access_line.method == Method::Delete => {
@@ -110,19 +118,21 @@ impl<'a, R: Wait> ServerHandler<'a, R> {
     }
 
     /// Sets what must be durable before the next bytes are sent, and calls the follower if it isn't yet.
-    fn set_gate(&self, gate: &mut SendGate)
-        ensures { Covers self.now.handle.handle.pass.known.seen gate.new.needed }
+    fn set_gate(&self, gate: &mut SendGate, is_exempt: bool, is_receiving: bool)
+        ensures covers { Covers self.now.handle.handle.pass.known.seen gate.new.needed }
+        ensures exempt { gate.new.needed.is_exempt ≡ is_exempt }
     {
         *gate = SendGate {
-            needed: self.handle.find_needed(self.durability),
+            needed: self.handle.find_needed(self.durability, is_exempt),
             durable: self.durability.read(),
+            is_receiving,
         };
         if gate.is_closed() {
             self.durability.call(self.rt);
         }
     }
 
-    /// Who is told of what comes of a peer's requests.
+    /// Returns the observer of a peer's requests for one turn.
     fn observer(&self, peer: SocketAddr) -> ClientObserver<'a, R> {
         ClientObserver {
             rt: self.rt,
@@ -134,10 +144,14 @@ impl<'a, R: Wait> ServerHandler<'a, R> {
         }
     }
 
-    /// Notes that an encoder's body was ingested further, after the given number of units.
+    /// Notes a sign of life of an encoder if its body has more units than `before`, and that its last unit was ahead of the channel if it was.
     fn note_ingested(&self, report: IngestReport, before: u64, now_ms: u64) {
+        let signs = self.handle.handle.channel.signs;
         if count_heard(report) > before {
-            self.signs.note_unit(report.rendition, now_ms);
+            signs.note_unit(report.rendition, now_ms);
+        }
+        if let Err(IngestStop::Refused(StreamFault::AheadOfChannel)) = report.result {
+            signs.note_ahead(report.rendition, now_ms);
         }
     }
 
@@ -155,12 +169,31 @@ impl<'a, R: Wait> ServerHandler<'a, R> {
         if let Some(ended) = client.ingested.get() {
             self.note_ingested(ended, heard, now_ms);
             self.count_repairs(earlier, ended);
+            self.count_refusal(ended);
             heard = 0;
             earlier = None;
         }
         if let Some(report) = after {
             self.note_ingested(report, heard, now_ms);
             self.count_repairs(earlier, report);
+        }
+    }
+
+    /// Counts a body that was refused.
+    fn count_refusal(&self, ended: IngestReport) {
+        if let Some(name) = refusal_name(ended.result) {
+            let measurements = self.handle.handle.channel.measurements;
+            measurements.count_refusal(name.as_bytes());
+        }
+    }
+
+    /// Notes the time, and removes unused jobs before one can be used again, if they are removed at all.
+    fn note_time(&self, now_ms: u64) {
+        if let Some(life_s) = self.settings.server.job_life_s {
+            let jobs = self.handle.handle.channel.jobs;
+            if jobs.note_time(now_ms) {
+                jobs.remove_unused(self.rt, now_ms, life_s.saturating_mul(1000));
+            }
         }
     }
 
@@ -181,8 +214,33 @@ impl<'a, R: Wait> ServerHandler<'a, R> {
     }
 }
 
-/// How many units of a body are signs of life of its encoder, recorded or not. Those that were sent before aren't counted, since nor are
-/// init sections that were.
+/// Whether what was answered in a turn shows no media: a report for operators, or a refusal of something else than media.
+fn is_exempt<E>(client: &ClientObserver<'_, E>) -> bool {
+    let Some(answered) = client.access_line.get() else {
+        return false;
+    };
+    match answered.route {
+        None | Some(Route::Status | Route::Metrics | Route::Run) => true,
+        Some(Route::Ingest(_) | Route::Finish(_)) => false,
+        _ => is_refusal(answered.status),
+    }
+}
+
+/// Whether a status refuses a request, whatever media there are.
+fn is_refusal(status: Status) -> bool {
+    matches!(
+        status,
+        Status::BadRequest
+            | Status::MethodNotAllowed
+            | Status::ContentTooLarge
+            | Status::HeadTooLarge
+            | Status::Unavailable
+            | Status::InsufficientStorage
+    )
+}
+
+/// Returns how many units of a body are signs of life of its encoder, recorded or not. Retransmitted ones aren't, as retransmitted init
+/// sections aren't.
 fn count_heard(report: IngestReport) -> u64 {
     let counts = report.counts;
     counts
@@ -205,8 +263,8 @@ impl<'a, R: Wait + Clock + Eprint> ServerHandler<'a, R> {
         }
     }
 
-    /// Notes what became of a request in a turn that began then, if requests are logged. If there is no memory for that, it isn't
-    /// logged.
+    /// Notes what became of a request in a turn that began at `started_ms`, if requests are logged. After an allocation failure the request
+    /// isn't logged.
     fn note_response(
         &self,
         access: &mut Option<Box<AccessRecord>>,
@@ -254,9 +312,9 @@ impl<'a, R: Wait + Clock + Eprint> Handler for ServerHandler<'a, R> {
 
     ghost pending = { unsent };
 
-    ghost may_read = { λ logged. WantsRead logged.connection };
+    ghost may_read = { λ logged. WantsRead logged.connection × (IsHeld logged → ⊥) };
 
-    ghost needs_io = { λ logged. IsIdleOrBlocked logged.connection ⊎ Waits logged.connection };
+    ghost needs_io = { λ logged. (IsIdleOrBlocked logged.connection ⊎ Waits logged.connection) ⊎ IsHeld logged };
 
     ghost max_steps = { λ logged. steps_left logged.connection };
 
@@ -274,7 +332,11 @@ impl<'a, R: Wait + Clock + Eprint> Handler for ServerHandler<'a, R> {
             1,
         );
         LoggedConnection {
-            connection: Connection::new(&self.handle, self.settings.server.mending),
+            connection: Connection::new(
+                &self.handle,
+                self.settings.server.mending,
+                self.settings.server.timing.shown_us,
+            ),
             access: None,
             gate: SendGate::new(self.durability.read()),
         }
@@ -284,22 +346,25 @@ impl<'a, R: Wait + Clock + Eprint> Handler for ServerHandler<'a, R> {
         suits_is_stable();
         if logged.is_held() {
             logged.gate.durable = self.durability.read();
-            return false;
+            if logged.is_held() {
+                return false;
+            }
+            if logged.connection.wants_write() {
+                return false;
+            }
         }
         let client = self.observer(peer);
         let started_ms = monotonic_ms(self.rt);
+        self.handle.handle.now_ms = started_ms;
         let waited = logged.connection.is_waiting();
         let before = logged.connection.ingest_progress();
+        self.note_time(started_ms);
         let now = self.time_to_wait(logged, started_ms);
         let more = logged.connection.advance(&mut self.handle, now, &client);
-        self.set_gate(&mut logged.gate);
+        let after = logged.connection.ingest_progress();
+        self.set_gate(&mut logged.gate, is_exempt(&client), after.is_some());
         self.count_waiting(waited, logged.connection.is_waiting());
-        self.note_units(
-            before,
-            &client,
-            logged.connection.ingest_progress(),
-            started_ms,
-        );
+        self.note_units(before, &client, after, started_ms);
         self.count_request(&client);
         self.wake_after_removal(&client);
         self.log_slow(&client, started_ms);
@@ -337,7 +402,7 @@ impl<'a, R: Wait + Clock + Eprint> Handler for ServerHandler<'a, R> {
     }
 
     fn wants_read(&self, logged: &LoggedConnection) -> bool {
-        logged.connection.wants_read()
+        logged.connection.wants_read() && !logged.is_held()
     }
 
     fn is_waiting(&self, logged: &LoggedConnection) -> bool {

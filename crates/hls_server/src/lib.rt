@@ -1,7 +1,8 @@
 //! A running server of a channel: threads that serve connections from one turn, threads that run catch-up jobs, one that keeps the
 //! channel to its window, one that writes its journal if it has one, and the log lines about clients.
 //!
-//! What a connection is answered is a session over the turn, which `hls_api` defines. No clause is about threads, sockets and time.
+//! The responses of a connection are those of a session over the turn, which `hls_api` defines. No contract covers threads, sockets and
+//! time.
 #![tactic(auto)]
 
 mod durability;

@@ -9,15 +9,25 @@ use hls_http::{BodyEnd, Method};
 use std::fmt::{self, Display, Formatter, Write};
 use std::net::SocketAddr;
 
+/// The name of the refusal of an encoder's body, if it was refused.
+pub(crate) fn refusal_name(ended: Result<(), IngestStop>) -> Option<&'static str> {
+    match ended {
+        Err(IngestStop::Refused(fault)) => Some(fault.name()),
+        Err(IngestStop::Memory) => Some("Memory"),
+        Err(IngestStop::Stopped(BodyEnd::BadFraming)) => Some("BadFraming"),
+        _ => None,
+    }
+}
+
 /// How an encoder's body ended.
 fn describe_end(ended: Result<(), IngestStop>) -> (&'static str, &'static str) {
+    if let Some(name) = refusal_name(ended) {
+        return ("refused ", name);
+    }
     match ended {
-        Ok(()) => ("done", ""),
-        Err(IngestStop::Refused(fault)) => ("refused ", fault.name()),
-        Err(IngestStop::Memory) => ("refused ", "Memory"),
-        Err(IngestStop::Stopped(BodyEnd::BadFraming)) => ("refused ", "BadFraming"),
         Err(IngestStop::Stopped(BodyEnd::CutShort)) => ("cut short", ""),
         Err(IngestStop::Stopped(BodyEnd::ReadFailed)) => ("read failed", ""),
+        _ => ("done", ""),
     }
 }
 

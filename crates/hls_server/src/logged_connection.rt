@@ -28,11 +28,15 @@ pub struct LoggedConnection {
 }
 
 impl LoggedConnection {
-    /// Whether it has bytes to send that are held back.
+    /// Whether it has bytes to send that are held back, or has none and isn't read.
     pub fn is_held(&self) -> bool
         ensures { result ≡ holds_back self.now.gate (history self.now.connection).pending }
     {
-        self.gate.is_closed() && self.connection.wants_write()
+        if self.connection.wants_write() {
+            self.gate.is_closed()
+        } else {
+            self.gate.is_behind()
+        }
     }
 }
 

@@ -1,4 +1,4 @@
-//! By which number a request is counted.
+//! The kinds of requests that are counted.
 
 use crate::log_lines::AccessLine;
 use hls_api::route::Route;
@@ -12,10 +12,13 @@ fn route_kind(route: Option<Route>) -> RouteKind {
         Some(Route::Finish(_)) => RouteKind::Finish,
         Some(Route::LiveMaster | Route::LiveList(_)) => RouteKind::Live,
         Some(Route::Media(_)) => RouteKind::Media,
-        Some(Route::CatchUp | Route::Programme(..)) => RouteKind::CatchUp,
+        Some(Route::CatchUp) => RouteKind::CatchUp,
+        Some(Route::Programme(..)) => RouteKind::Programme,
         Some(Route::Job(_) | Route::JobFile(..)) => RouteKind::Job,
         Some(Route::Status | Route::Metrics | Route::Run) => RouteKind::Status,
-        Some(Route::PathMaster | Route::PathList(_)) => RouteKind::Playlist,
+        Some(Route::PathMaster | Route::PathList(_) | Route::RecentList(..) | Route::Since(..)) => {
+            RouteKind::Playlist
+        }
         Some(Route::InitSection(..) | Route::Segment(..)) => RouteKind::Segment,
     }
 }

@@ -1,7 +1,7 @@
 //! What holds the bytes of a connection back until their state is durable.
 
 ghost use Rattle.std.specs.Prelude.{◌≡◌};
-ghost use Rattle.hls_server.specs.SendGates.{is_closed};
+ghost use Rattle.hls_server.specs.SendGates.{is_behind, is_closed};
 
 use crate::durability::DurablePoint;
 
@@ -10,16 +10,23 @@ use crate::durability::DurablePoint;
 pub struct NeededPoint {
     /// The version that the worker's pass had seen when they were made.
     pub version: u64,
-    /// The round that must have ended, where that version isn't known; else 0.
+    /// The round that must have ended if that version isn't known; else 0.
     pub round: u64,
+    /// Whether nothing must be durable, since the response shows no media: a report for operators, or a refusal.
+    pub is_exempt: bool,
 }
 
-/// What holds the bytes of a connection back.
+/// How many versions the journal may be behind before encoders' bodies aren't read: what isn't written is held in memory.
+pub const MOST_LAG: u64 = 1024;
+
+/// What holds the bytes of a connection back, and an encoder's body.
 #[derive(Clone, Copy, Drop)]
 pub struct SendGate {
     pub needed: NeededPoint,
     /// How far the journal was durable when it was read last for this connection.
     pub durable: DurablePoint,
+    /// Whether an encoder's body is received.
+    pub is_receiving: bool,
 }
 
 impl SendGate {
@@ -29,8 +36,10 @@ impl SendGate {
             needed: NeededPoint {
                 version: 0,
                 round: 0,
+                is_exempt: false,
             },
             durable,
+            is_receiving: false,
         }
     }
 
@@ -39,5 +48,12 @@ impl SendGate {
         ensures { result ≡ is_closed self.now }
     {
         self.durable.version < self.needed.version || self.durable.round < self.needed.round
+    }
+
+    /// Whether an encoder's body isn't read, since the journal is far behind.
+    pub fn is_behind(&self) -> bool
+        ensures { result ≡ is_behind self.now }
+    {
+        self.is_receiving && MOST_LAG < self.needed.version.saturating_sub(self.durable.version)
     }
 }

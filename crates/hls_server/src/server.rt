@@ -13,12 +13,13 @@ use hls_core::snapshot::Snapshot;
 use hls_event_loop::{WorkerIo, WorkerLoads, open_file_limit, run_worker, tune_listener};
 use hls_housekeeper::{
     LogThrottle, OperatorLog, ServerStatus, ThreadCounts, log_ended_worker, log_fewer_threads,
-    run_housekeeper,
+    measure_process, run_housekeeper,
 };
 use hls_jobs::{Gate, Jobs, work_loop};
 use hls_mend::EncoderSigns;
 use hls_metrics::Measurements;
 use hls_settings::{Settings, ThreadSettings};
+use hls_time::monotonic_ms;
 use hls_turn::{Pass, Turn};
 use std::alloc::{AllocError, Global};
 use std::cell::Cell;
@@ -40,21 +41,29 @@ pub struct ServerJournal<F> {
     pub follower: F,
     /// How often it is synced, in milliseconds, if it is by time.
     pub sync_interval_ms: Option<u64>,
+    /// Whether encoders are refused once it is lost; else the channel continues without it.
+    pub refuses_if_lost: bool,
 }
 
 /// What a server starts with.
 #[derive(Drop)]
-pub struct ServerStart<F> {
+pub struct ServerStart<'a, F> {
+    /// The system whose files the housekeeper reads.
+    pub host: &'a HostRuntime,
     /// The channel as it is then.
     pub snapshot: Snapshot,
     /// The first id of a job; 1 for a new channel.
     pub first_job: u64,
     pub journal: Option<ServerJournal<F>>,
+    /// Whether encoders are refused from the start, since the journal was lost.
+    pub refuses_encoders: bool,
 }
 
 /// What the threads of a server share.
 #[derive(Clone, Copy)]
 struct ServerContext<'a> {
+    /// The system whose files the housekeeper reads: another runtime's files can't be used in a thread.
+    host: &'a HostRuntime,
     alloc: Global,
     settings: &'a Settings,
     channel: &'a SharedChannel<'a>,
@@ -67,23 +76,26 @@ struct ServerContext<'a> {
     /// How many responses of a worker wait at most.
     most_waiting: u64,
     throttle: &'a LogThrottle,
-    /// What was heard of encoders.
-    signs: &'a EncoderSigns,
     /// Whether all workers have ended.
     closed: &'a AtomicBool,
     /// How far the journal is durable.
     durability: &'a Durability,
 }
 
-/// Wakes responses that wait for a job whenever one ends.
-#[derive(Clone, Copy, Drop)]
-struct WakingGate<'a> {
+/// Wakes responses that wait for a job whenever one ends. Once the workers are to end, no further job runs.
+#[derive(Drop)]
+struct WakingGate<'a, R> {
+    rt: &'a R,
     worker_loads: &'a WorkerLoads,
 }
 
-impl<'a> Gate for WakingGate<'a> {
+impl<'a, R: Clock> Gate for WakingGate<'a, R> {
     fn enter(&self, _id: u64) -> bool {
-        true
+        !self.worker_loads.is_ending()
+    }
+
+    fn now_ms(&self) -> u64 {
+        monotonic_ms(self.rt)
     }
 
     fn leave(&self, _id: u64) {
@@ -97,15 +109,42 @@ impl<'a> ServerStatus for ServerContext<'a> {
     }
 
     fn last_heard_ms(&self, rendition: usize) -> u64 {
-        self.signs.last_heard_ms(rendition)
+        self.channel.signs.last_heard_ms(rendition)
+    }
+
+    fn is_ahead(&self, rendition: usize) -> bool {
+        self.channel.signs.is_ahead(rendition)
     }
 
     fn measurements(&self) -> &Measurements {
         self.channel.measurements
     }
 
+    fn connection_count(&self) -> u64 {
+        self.worker_loads.connection_count()
+    }
+
+    fn remove_unused_jobs<R: Wait>(&self, rt: &R, now: u64) {
+        if let Some(life_s) = self.settings.server.job_life_s {
+            let life_ms = life_s.saturating_mul(1000);
+            self.channel.jobs.remove_unused(rt, now, life_ms);
+        }
+    }
+
+    fn measure_process(&self) {
+        measure_process(self.host, self.channel.measurements);
+    }
+
     fn is_closed(&self) -> bool {
         self.closed.load(Ordering::SeqCst)
+    }
+
+    fn written_version(&self) -> u64 {
+        self.durability.read().version
+    }
+
+    fn journal_busy_ms(&self, now: u64) -> u64 {
+        self.durability.busy_ms(now)
     }
 }
 
@@ -123,8 +162,8 @@ fn pass_count(workers: u64, has_journal: bool) -> u16
 }
 
 /// Serves connections from a channel, which begins as `start` says. Each worker accepts the given number of connections, or serves
-/// forever if none is given. The housekeeper, the follower of the journal and the planners end when all workers have, and the planners
-/// finish the jobs that wait by then.
+/// forever if none is given, or until the follower of the journal wants the server to end. The housekeeper, the follower and the planners
+/// end when all workers have. The planners finish the jobs that wait by then, unless it ends for its follower.
 ///
 /// A worker holds many connections at once, and none of them may be silent or slow forever. If a thread can't be started, the others
 /// serve, and a line is logged; without its follower a channel with a journal isn't served. An allocation failure is returned before a
@@ -135,34 +174,41 @@ pub fn run_server<'a, R: Net<Listener = TcpListener, Stream = TcpStream>, F: Sta
     settings: &'a Settings,
     listener: &'a TcpListener,
     connections: Option<u64>,
-    start: ServerStart<F>,
+    start: ServerStart<'a, F>,
 ) -> Result<(), AllocError>
 where
     R: Threads + Wait + Clock + Eprint + Env + Sync,
     F: Drop,
 {
     let ServerStart {
+        host,
         snapshot,
         first_job,
         journal,
+        refuses_encoders,
     } = start;
     let workers = settings.server.workers;
     let durability = find_durability(&snapshot, journal.is_some());
     let count = pass_count(workers.workers, journal.is_some());
     let (turn, passes) = Turn::new(rt, alloc, snapshot, count)?;
+    if refuses_encoders {
+        turn.refuse_encoders();
+    }
     let jobs = Jobs::starting_at(alloc, first_job)?;
     let measurements = Measurements::new(alloc)?;
     let files = open_file_limit();
     let worker_loads = make_loads(alloc, workers, files, connections)?;
+    let signs = EncoderSigns::new();
     let channel = SharedChannel {
         turn: &turn,
         jobs: &jobs,
         measurements: &measurements,
+        signs: &signs,
+        wait_ms: u64::from(settings.server.wait_s).saturating_mul(1000),
     };
-    let signs = EncoderSigns::new();
-    let throttle = LogThrottle::new();
-    let closed = AtomicBool::new(false);
+    let (throttle, closed) = (LogThrottle::new(), AtomicBool::new(false));
     let context = ServerContext {
+        host,
         alloc,
         settings,
         channel: &channel,
@@ -171,7 +217,6 @@ where
         worker_loads: &worker_loads,
         most_waiting: waiting_limit(workers, files),
         throttle: &throttle,
-        signs: &signs,
         closed: &closed,
         durability: &durability,
     };
@@ -224,7 +269,6 @@ fn run_worker_thread<R: Wait + Clock + Eprint>(
         durability: context.durability,
         settings: context.settings,
         throttle: context.throttle,
-        signs: context.signs,
         worker_loads: context.worker_loads,
         waiting: Cell::new(0),
         most_waiting: context.most_waiting,
@@ -277,6 +321,7 @@ fn run_follower_thread<R: Wait + Clock, F: StateFollower + Drop>(
         worker_loads: context.worker_loads,
         measurements: context.channel.measurements,
         sync_interval_ms: journal.sync_interval_ms,
+        refuses_if_lost: journal.refuses_if_lost,
     };
     run_follower(rt, what, &mut journal.follower, context, &mut pass);
 }
@@ -313,17 +358,18 @@ where
 }
 
 /// Starts the threads that run jobs. Returns how many were started.
-fn start_planners<'s, E, R: Wait + Sync>(
+fn start_planners<'s, E, R: Wait + Clock + Sync>(
     scope: &Scope<'s, E>,
     rt: &'s R,
     context: &'s ServerContext<'s>,
 ) -> u64 {
     let (alloc, jobs) = (context.alloc, context.channel.jobs);
-    let gate = WakingGate {
-        worker_loads: context.worker_loads,
-    };
     let mut started: u64 = 0;
     for _ in 0..context.settings.server.workers.planners {
+        let gate = WakingGate {
+            rt,
+            worker_loads: context.worker_loads,
+        };
         let planner = scope.spawn(move || work_loop(rt, alloc, jobs, &gate));
         if planner.is_ok() {
             started = started.saturating_add(1);

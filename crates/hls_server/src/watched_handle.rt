@@ -7,6 +7,7 @@ ghost use Rattle.hls_server.specs.SendGates.{Covers};
 use crate::durability::Durability;
 use crate::send_gate::NeededPoint;
 use hls_api::Response;
+use hls_api::encoder_readings::EncoderReadings;
 use hls_catchup::{Job, JobFault, Request};
 use hls_connection::channel_handle::ChannelHandle;
 use hls_connection::keeper::Keeper;
@@ -28,7 +29,7 @@ pub struct WatchedHandle<'a, T: Wait> {
     seen: u64,
     /// Whether it isn't: the last event was a repeat or refused, or the last look failed.
     is_unknown: bool,
-    /// Whether a job was read since the last call of `take_needed`. A job may be of a later state than the pass saw.
+    /// Whether a job was read since the last call of `find_needed`. A job may be of a later state than the pass saw.
     has_read_job: Cell<bool>,
     ghost covered: { IsFalse is_unknown → length handle.pass.known.seen.log ≤ seen },
 }
@@ -46,10 +47,19 @@ impl<'a, T: Wait> WatchedHandle<'a, T> {
         }
     }
 
-    /// Returns how far the journal must be durable before anything is sent that was made by now.
-    pub fn find_needed(&self, durability: &Durability) -> NeededPoint
-        ensures { Covers self.now.handle.pass.known.seen result }
+    /// Returns how far the journal must be durable before the bytes that were made by now may be sent. Nothing must be for an exempt
+    /// response.
+    pub fn find_needed(&self, durability: &Durability, is_exempt: bool) -> NeededPoint
+        ensures covers { Covers self.now.handle.pass.known.seen result }
+        ensures exempt { result.is_exempt ≡ is_exempt }
     {
+        if is_exempt {
+            return NeededPoint {
+                version: 0,
+                round: 0,
+                is_exempt,
+            };
+        }
         let round = if self.has_read_job.replace(false) || self.is_unknown {
             durability.next_round()
         } else {
@@ -58,6 +68,7 @@ impl<'a, T: Wait> WatchedHandle<'a, T> {
         NeededPoint {
             version: self.seen,
             round,
+            is_exempt,
         }
     }
 }
@@ -117,6 +128,10 @@ impl<'a, T: Wait> Keeper for WatchedHandle<'a, T> {
 
     fn job_count(&self) -> usize {
         self.handle.job_count()
+    }
+
+    fn read_encoders(&mut self) -> EncoderReadings {
+        self.handle.read_encoders()
     }
 
     fn measured(&self) -> Measured {

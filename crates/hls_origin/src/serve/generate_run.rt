@@ -26,7 +26,7 @@ fn read_random<R: Files>(rt: &R) -> Option<[u8; 16]> {
 }
 
 /// Returns nanoseconds since 1970 by the clock of the system; 0 if it can't be read.
-fn read_clock<R: Clock>(rt: &R) -> u64 {
+pub fn read_clock<R: Clock>(rt: &R) -> u64 {
     let Ok(now) = SystemTime::now(rt) else {
         return 0;
     };

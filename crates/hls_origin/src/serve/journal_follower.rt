@@ -6,15 +6,20 @@ use hls_journal_store::{StoreFault, StoreFollower};
 use hls_server::{FollowFault, StateFollower};
 use hls_time::monotonic_ms;
 use std::alloc::Global;
+use std::sync::Arc;
 use std::sync::atomic::AtomicU64;
 
 /// Writes the journal of a channel, and logs its faults, once a minute at most.
 #[derive(Drop)]
 pub struct JournalFollower<'a> {
-    /// Whose files they are. A runtime that is known by its bounds alone can't be moved to a thread with its files.
+    /// The system whose files they are. A runtime that is known only by its traits can't be moved to a thread with its files.
     pub host: &'a HostRuntime,
     pub alloc: Global,
     pub follower: StoreFollower,
+    /// Whether encoders are refused once the journal is lost.
+    pub refuses_if_lost: bool,
+    /// Whether the journal is lost.
+    pub is_lost: bool,
     /// When a fault was last logged, in milliseconds of the clock; 0 if never.
     pub logged_at_ms: AtomicU64,
 }
@@ -54,9 +59,15 @@ impl<'a> StateFollower for JournalFollower<'a> {
     }
 
     fn abandon(&mut self) {
+        self.is_lost = true;
         let level = OperatorLog::new(self.host).error_prefix();
+        let now = if self.refuses_if_lost {
+            "encoders get 503"
+        } else {
+            "the channel continues without it"
+        };
         let _ = eprintln!(self.host;
-            "{level}serve: journal lost: the channel continues without it, and no start takes the folder"
+            "{level}serve: journal lost: {now}, and no start takes the folder"
         );
         if self.follower.mark(self.host).is_err() {
             let _ = eprintln!(self.host;
@@ -65,8 +76,15 @@ impl<'a> StateFollower for JournalFollower<'a> {
         }
     }
 
-    fn close(&mut self, snapshot: &Snapshot) {
-        if let Err(fault) = self.follower.close(self.host, self.alloc, snapshot) {
+    /// A channel is renewed at a start, so a server never ends for it.
+    fn wants_end(&mut self, _snapshot: &Snapshot) -> bool {
+        false
+    }
+
+    fn close(&mut self, snapshot: Arc<Snapshot>) {
+        if !self.is_lost
+            && let Err(fault) = self.follower.close(self.host, self.alloc, &snapshot)
+        {
             let _ = self.report(fault);
         }
     }

@@ -1,29 +1,48 @@
 //! Opens the journal of a channel, and logs what was restored.
 
 use crate::journal::FolderFault;
-use crate::serve::generate_run::generate_run;
-use crate::serve::journal_follower::JournalFollower;
+use crate::serve::generate_run::{generate_run, read_clock};
 use hls_core::config::Config;
 use hls_core::snapshot::Snapshot;
 use hls_housekeeper::OperatorLog;
 use hls_journal::JournalFault;
-use hls_journal_store::{OpenFault, OpenedStore, StoreStart, SyncMode, open_store};
-use hls_server::{ServerJournal, ServerStart};
-use hls_settings::{PrintableArgument, SyncSetting};
+use hls_journal_store::{
+    OpenFault, OpenedStore, StoreFollower, StoreStart, SyncMode, begin_anew, open_store,
+};
+use hls_settings::{JournalSettings, PrintableArgument, SyncSetting};
 use hls_time::monotonic_ms;
 use std::alloc::Global;
 use std::fmt::{self, Display, Formatter, Write};
 use std::io::Eprint;
 use std::rt::Env;
 use std::sync::Arc;
-use std::sync::atomic::AtomicU64;
+
+/// The journal of a channel.
+#[derive(Drop)]
+pub struct ChannelJournal {
+    /// It has the state in which the channel starts.
+    pub follower: StoreFollower,
+    /// How often it is synced, in milliseconds, if it is by time.
+    pub sync_interval_ms: Option<u64>,
+    /// Whether encoders are refused once it is lost.
+    pub refuses_if_lost: bool,
+}
+
+/// What a channel starts with.
+#[derive(Drop)]
+pub struct ChannelStart {
+    pub snapshot: Snapshot,
+    /// The first id of a job; 1 for a new channel.
+    pub first_job: u64,
+    pub journal: Option<ChannelJournal>,
+}
 
 /// Why the journal of a channel can't be opened.
 #[derive(Clone, Copy, Drop)]
 pub enum JournalStop {
     /// Out of memory.
     Memory,
-    /// The arguments are of another channel than the journal; the cause was logged.
+    /// The arguments describe another channel than the journal does; the cause was logged.
     Other,
     /// Nothing can be restored; the cause was logged.
     Failed,
@@ -84,21 +103,47 @@ fn report_stop<R: Eprint + Env>(rt: &R, folder: &str, fault: &OpenFault) -> Jour
     }
 }
 
+/// Begins a new channel after the one in a folder. Logs where its lists begin.
+fn begin_channel(
+    host: &HostRuntime,
+    alloc: Global,
+    folder: &str,
+    config: &Config,
+    new_run: [u8; 16],
+) -> Result<(), JournalStop> {
+    let now_s = read_clock(host) / 1_000_000_000;
+    match begin_anew(host, alloc, folder, config, new_run, now_s) {
+        Ok(Some(base)) => {
+            let (name, segments) = (PrintableArgument(folder), base.segments());
+            let _ = eprintln!(host;
+                "serve: journal {name}: begins anew: lists continue with segment {segments}"
+            );
+            Ok(())
+        }
+        Ok(None) => Ok(()),
+        Err(fault) => Err(report_stop(host, folder, &fault)),
+    }
+}
+
 /// Opens the journal in a folder: the channel that it has, or a new one with this configuration. Logs what was restored.
-pub fn open_journal<'a>(
-    host: &'a HostRuntime,
+pub fn open_journal(
+    host: &HostRuntime,
     alloc: Global,
     folder: &str,
     config: Config,
-    sync: SyncSetting,
-) -> Result<ServerStart<JournalFollower<'a>>, JournalStop> {
+    settings: JournalSettings,
+) -> Result<ChannelStart, JournalStop> {
     let began_ms = monotonic_ms(host);
-    let (mode, sync_interval_ms) = sync_mode(sync);
+    let (mode, sync_interval_ms) = sync_mode(settings.sync);
+    let new_run = generate_run(host);
+    if settings.begins_anew {
+        begin_channel(host, alloc, folder, &config, new_run)?;
+    }
     let OpenedStore {
         follower,
         snapshot,
         start,
-    } = match open_store(host, alloc, folder, config, mode, generate_run(host)) {
+    } = match open_store(host, alloc, folder, config, mode, new_run) {
         Ok(opened) => opened,
         Err(fault) => return Err(report_stop(host, folder, &fault)),
     };
@@ -111,18 +156,13 @@ pub fn open_journal<'a>(
     let Ok(snapshot) = Arc::try_unwrap(snapshot) else {
         return Err(JournalStop::Memory);
     };
-    let follower = JournalFollower {
-        host,
-        alloc,
-        follower,
-        logged_at_ms: AtomicU64::new(0),
-    };
-    Ok(ServerStart {
+    Ok(ChannelStart {
         snapshot,
         first_job: start.first_job,
-        journal: Some(ServerJournal {
+        journal: Some(ChannelJournal {
             follower,
             sync_interval_ms,
+            refuses_if_lost: settings.refuses_if_lost,
         }),
     })
 }

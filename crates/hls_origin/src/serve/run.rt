@@ -5,20 +5,21 @@ ghost use Rattle.hls_origin.specs.ServeRun.{EndsServe, IsServed};
 use crate::serve::generate_run::generate_run;
 use crate::serve::journal_follower::JournalFollower;
 use crate::serve::load_base::{BaseFileFault, load_base};
-use crate::serve::open_journal::{JournalStop, open_journal};
+use crate::serve::open_journal::{ChannelJournal, ChannelStart, JournalStop, open_journal};
 use hls_core::base::Base;
 use hls_core::snapshot::Snapshot;
 use hls_housekeeper::{OperatorLog, log_listening};
-use hls_server::{ServerStart, log_start, run_server};
+use hls_server::{ServerJournal, ServerStart, log_start, run_server};
 use hls_settings::{
-    ListenAddress, Settings, SettingsFault, SyncFault, SyncSetting, find_base_argument,
-    find_journal_argument, read_settings, read_sync_setting,
+    JournalSettings, JournalSettingsFault, ListenAddress, Settings, SettingsFault,
+    find_base_argument, find_journal_argument, read_journal_settings, read_settings,
 };
 use std::alloc::{AllocError, Global};
 use std::convert::AsStr;
 use std::io::Eprint;
 use std::net::{Ipv4Addr, Net, SocketAddrV4, TcpListener, TcpStream};
 use std::rt::{Env, Files};
+use std::sync::atomic::AtomicU64;
 use std::sync::Wait;
 use std::thread::Threads;
 use std::time::Clock;
@@ -32,8 +33,8 @@ pub enum ServeEnd {
     Usage(SettingsFault),
     /// The base can't be taken, and nothing was started: status 2.
     Base(BaseFileFault),
-    /// `--sync` is invalid, and nothing was started: status 2.
-    Sync(SyncFault),
+    /// An option of a journal is invalid, and nothing was started: status 2.
+    Journal(JournalSettingsFault),
     /// `--journal` names no folder, and nothing was started: status 2.
     NoFolder,
     /// The folder of the journal has another channel, and nothing was started: status 2.
@@ -87,11 +88,8 @@ fn with_base<R: Files + Clock>(
 }
 
 /// Returns the start of a channel without a journal: it is empty.
-fn plain_start<'a>(
-    alloc: Global,
-    settings: &Settings,
-) -> Result<ServerStart<JournalFollower<'a>>, AllocError> {
-    Ok(ServerStart {
+fn plain_start(alloc: Global, settings: &Settings) -> Result<ChannelStart, AllocError> {
+    Ok(ChannelStart {
         snapshot: Snapshot::first(alloc, settings.config.share()?)?,
         first_job: 1,
         journal: None,
@@ -99,13 +97,13 @@ fn plain_start<'a>(
 }
 
 /// Returns the start of a channel: with a journal, what its folder has.
-fn start_channel<'a>(
-    host: &'a HostRuntime,
+fn start_channel(
+    host: &HostRuntime,
     alloc: Global,
     settings: &Settings,
     folder: Option<&str>,
-    sync: SyncSetting,
-) -> Result<ServerStart<JournalFollower<'a>>, JournalStop> {
+    journal: JournalSettings,
+) -> Result<ChannelStart, JournalStop> {
     let Some(folder) = folder else {
         return match plain_start(alloc, settings) {
             Ok(start) => Ok(start),
@@ -115,7 +113,7 @@ fn start_channel<'a>(
     let Ok(config) = settings.config.share() else {
         return Err(JournalStop::Memory);
     };
-    let start = open_journal(host, alloc, folder, config, sync)?;
+    let start = open_journal(host, alloc, folder, config, journal)?;
     match settings.server.run {
         Some(run) if run != start.snapshot.config().base().run() => {
             let level = OperatorLog::new(host).warning_prefix();
@@ -128,13 +126,48 @@ fn start_channel<'a>(
     Ok(start)
 }
 
+/// Returns what the server of a channel starts with.
+fn start_server<'a>(
+    host: &'a HostRuntime,
+    alloc: Global,
+    start: ChannelStart,
+) -> ServerStart<'a, JournalFollower<'a>> {
+    let ChannelStart {
+        snapshot,
+        first_job,
+        journal,
+    } = start;
+    let followed = match journal {
+        Some(journal) => Some(ServerJournal {
+            follower: JournalFollower {
+                host,
+                alloc,
+                follower: journal.follower,
+                refuses_if_lost: journal.refuses_if_lost,
+                is_lost: false,
+                logged_at_ms: AtomicU64::new(0),
+            },
+            sync_interval_ms: journal.sync_interval_ms,
+            refuses_if_lost: journal.refuses_if_lost,
+        }),
+        None => None,
+    };
+    ServerStart {
+        host,
+        snapshot,
+        first_job,
+        journal: followed,
+        refuses_encoders: false,
+    }
+}
+
 /// Listens, and serves a channel. Logs where it listens.
 fn serve_channel<'a, R>(
     rt: &R,
     host: &'a HostRuntime,
     alloc: Global,
     settings: &Settings,
-    start: ServerStart<JournalFollower<'a>>,
+    start: ServerStart<'a, JournalFollower<'a>>,
 ) -> ServeEnd
 where
     R: Net<Listener = TcpListener, Stream = TcpStream>
@@ -182,9 +215,9 @@ where
         Err(SettingsFault::Memory) => return ServeEnd::Memory,
         Err(fault) => return ServeEnd::Usage(fault),
     };
-    let sync = match read_sync_setting(arguments) {
-        Ok(sync) => sync,
-        Err(fault) => return ServeEnd::Sync(fault),
+    let journal = match read_journal_settings(arguments) {
+        Ok(journal) => journal,
+        Err(fault) => return ServeEnd::Journal(fault),
     };
     let folder = find_journal_argument(arguments);
     if folder == Some("") {
@@ -194,8 +227,11 @@ where
         Ok(settings) => settings,
         Err(fault) => return ServeEnd::Base(fault),
     };
-    match start_channel(host, alloc, &settings, folder, sync) {
-        Ok(start) => serve_channel(rt, host, alloc, &settings, start),
+    match start_channel(host, alloc, &settings, folder, journal) {
+        Ok(start) => {
+            let start = start_server(host, alloc, start);
+            serve_channel(rt, host, alloc, &settings, start)
+        }
         Err(JournalStop::Memory) => ServeEnd::Memory,
         Err(JournalStop::Other) => ServeEnd::OtherJournal,
         Err(JournalStop::Failed) => ServeEnd::JournalFailed,

@@ -18,8 +18,8 @@ returns-in_err-event-clause-keeps g c = λ m. kept_looking m _ _ _ _ _ (c.loop.i
 pub returns-in_default-clause-keeps : goal.returns-in_default-clause-keeps
 returns-in_default-clause-keeps g c = λ m. kept_looking m _ _ _ _ _ (c.loop.invariant.keeps m) c.next_event.ensures.looked
 
-pub returns-then-resting-clause-keeps : goal.returns-then-resting-clause-keeps
-returns-then-resting-clause-keeps g c = λ m. kept_looking m _ _ _ _ _ (c.loop.invariant.keeps m) c.next_event.ensures.looked
+pub returns-then-holds_back-clause-keeps : goal.returns-then-holds_back-clause-keeps
+returns-then-holds_back-clause-keeps g c = λ m. kept_looking m _ _ _ _ _ (c.loop.invariant.keeps m) c.next_event.ensures.looked
 
 pub returns-in_err-submit_upkeep-clause-keeps : goal.returns-in_err-submit_upkeep-clause-keeps
 returns-in_err-submit_upkeep-clause-keeps g c =

@@ -3,7 +3,7 @@ use Rattle.hls_jobs.proofs.shared.Jobs.remove.Goals.{in-Ok, in-Err}
 
 pub returns : goal.returns
 returns g c =
-    let removed = c.try_remove-removed.ensures in
+    let removed = c.remove-removed.ensures in
     elim c.match-removed.branch [
       | in-Ok w ↦ rw w.result-is (record { old_table = _; new_table = _; valid = removed.valid; removes = rw w.in-Ok.is at removed.removes })
       | in-Err w ↦ rw w.result-is (record { old_table = _; new_table = _; valid = removed.valid; removes = rw w.in-Err.is at removed.removes })

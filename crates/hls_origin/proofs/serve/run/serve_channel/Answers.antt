@@ -29,10 +29,10 @@ log_send : IsSend log_file
 log_send = search (sendable, crosses, calls_send) depth 30
 
 follower_send : (D : RattleType) → IsSend D → IsSend (Struct (declared.shape (follower.the_type D)))
-follower_send D d = struct_send (declared.shape (follower.the_type D)) (search (sendable, crosses) depth 30, (search (sendable, crosses) depth 30, (search (sendable, crosses) depth 30, (search (sendable, crosses) depth 30, (search (sendable, crosses) depth 30, (search (sendable, crosses) depth 30, (search (sendable, crosses) depth 30, (search (sendable, crosses) depth 30, tt))))))))
+follower_send D d = struct_send (declared.shape (follower.the_type D)) (search (sendable, crosses) depth 30, (search (sendable, crosses) depth 30, (search (sendable, crosses) depth 30, (search (sendable, crosses) depth 30, (search (sendable, crosses) depth 30, (search (sendable, crosses) depth 30, (search (sendable, crosses) depth 30, (search (sendable, crosses) depth 30, (search (sendable, crosses) depth 30, tt)))))))))
 
 journal_send : (a : NamedLft) → IsSend (journal.the_row a)
-journal_send a = declared_send (journal.the_type a) (search (sendable, crosses) depth 30, (search (sendable, crosses) depth 30, (follower_send log_file log_send, (search (sendable, crosses) depth 30, tt))))
+journal_send a = declared_send (journal.the_type a) (search (sendable, crosses) depth 30, (search (sendable, crosses) depth 30, (follower_send log_file log_send, (search (sendable, crosses) depth 30, (search (sendable, crosses) depth 30, (search (sendable, crosses) depth 30, tt))))))
 
 pub run_server-requires-send-F : goal.run_server-requires-send-F
 run_server-requires-send-F g c κs within = search (sendable, journal_send)

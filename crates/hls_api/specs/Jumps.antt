@@ -1,0 +1,71 @@
+-- Which units are ahead of the channel, and whether a jump is accepted, by a state and what was read of the encoders.
+use Rattle.std.specs.Prelude.{◌≡◌, ◌<◌, ℕ, zero, suc, ◌-◌, nat_eq, max, Bool, true, false, not, ◌&&◌, is_some, Option, Some, None, List, length, map, slice_get, slice_index_or}
+use Rattle.std.specs.Option.{option_map}
+use Rattle.std.specs.List.{range_with_len}
+use Rattle.hls_record.specs.RecordingData.{RecordingData}
+use Rattle.hls_core_laws.specs.State.{State}
+use Rattle.hls_core.specs.Getters.{recording_of, finished_at}
+use Rattle.hls_mend_laws.specs.Jumps.{allows_jump, Continues, is_ahead_of, is_accepted_jump}
+use Rattle.hls_mend_laws.specs.declared.presence.Presence.{Presence}
+use Rattle.hls_api.specs.declared.encoder_readings.EncoderReadings.{EncoderReadings}
+
+-- ---- units that are ahead
+
+abbrev pub later : Option ℕ → Option ℕ → Option ℕ
+later None b = b
+later (Some a) None = Some a
+later (Some a) (Some b) = Some (max a b)
+
+-- the end of the last unit in microseconds, if there is one
+abbrev pub end_us_in : Option RecordingData → Option ℕ
+end_us_in None = None
+end_us_in (Some rec) = option_map (λ f. f.end_us) (slice_get rec.facts (length rec.facts - 1))
+
+-- the newest end of the first n renditions
+unfoldable pub newest_end : State → ℕ → Option ℕ
+newest_end s zero = None
+newest_end s (suc n) = later (newest_end s n) (end_us_in (recording_of s n))
+
+abbrev pub is_ahead_by : ℕ → Option ℕ → ℕ → Bool
+is_ahead_by fill_us None start_us = false
+is_ahead_by fill_us (Some newest_us) start_us = is_ahead_of fill_us newest_us start_us
+
+-- a unit is ahead of the channel if it starts more than `fill_us` after the newest end of all renditions; none is before there is a unit
+abbrev pub is_ahead_in : ℕ → State → ℕ → Bool
+is_ahead_in fill_us s start_us = is_ahead_by fill_us (newest_end s (length s.config.renditions)) start_us
+
+-- ---- the other renditions
+
+abbrev pub is_unfinished : Option Bool → Bool
+is_unfinished (Some false) = true
+is_unfinished finished = false
+
+-- a rendition that has begun and isn't finished
+abbrev pub is_open_at : State → ℕ → Bool
+is_open_at s n = is_some (recording_of s n) && is_unfinished (finished_at s n)
+
+-- rendition n's encoder, as rendition r sees it: its own isn't among the others
+abbrev pub presence_of : State → ℕ → EncoderReadings → ℕ → Presence
+presence_of s r e n = record {
+  is_open = not (nat_eq n r) && is_open_at s n;
+  heard_us = slice_index_or e.heard_us n 0;
+  is_ahead = slice_index_or e.are_ahead n false;
+}
+
+abbrev pub other_presences : State → ℕ → EncoderReadings → List Presence
+other_presences s r e = map (presence_of s r e) (range_with_len 0 16)
+
+-- a unit of rendition r that is ahead is accepted if each other rendition that is open is ahead itself or away
+abbrev pub is_accepted_by : State → ℕ → EncoderReadings → Bool
+is_accepted_by s r e = is_accepted_jump e.wait_us e.now_us (other_presences s r e)
+
+-- ---- laws
+
+-- while another rendition continues, a unit that is ahead isn't accepted
+abbrev pub OneClockIsRefused : Type 0
+OneClockIsRefused = (s : State) (r n : ℕ) (e : EncoderReadings) → n < 16 → Continues e.wait_us e.now_us (presence_of s r e n) → is_accepted_by s r e ≡ false
+
+-- once every rendition allows it, it is
+abbrev pub AllJumpIsAccepted : Type 0
+AllJumpIsAccepted =
+    (s : State) (r : ℕ) (e : EncoderReadings) → ((n : ℕ) → n < 16 → allows_jump e.wait_us e.now_us (presence_of s r e n) ≡ true) → is_accepted_by s r e ≡ true

@@ -1,0 +1,8 @@
+use Rattle.hls_metrics.specs.Measurements.{file_metrics}
+use Rattle.hls_metrics.proofs.Appends.{two}
+use Rattle.hls_metrics.proofs.measured_metrics.push_file_metrics.Goals as goal
+
+pub returns : goal.returns
+unfolding file_metrics
+returns c =
+    two _ _ _ _ _ c.in_ok-push_gauge.ensures c.in_ok-push_gauge-2.ensures
