@@ -7,12 +7,12 @@ _hls_origin() {
         mapfile -t COMPREPLY < <(compgen -W "cut check lint explain serve size journal help --help --version" -- "$word")
     elif [ "$command" = explain ]; then
         mapfile -t COMPREPLY < <(compgen -W "$(hls_origin explain)" -- "$word")
-    elif [[ $word == -* && $command =~ ^(cut|check|lint|serve|size)$ ]]; then
+    elif [[ $word == -* && $command =~ ^(cut|check|lint|serve|size|journal)$ ]]; then
         # size takes the options of serve
         command=${command/size/serve}
         # the options that stand under the command in the help
         mapfile -t COMPREPLY < <(compgen -W "$(hls_origin --help |
-            sed -n "/^$command:/,/^[a-zE]/{/^  --/s/^  \(--[a-z]*\).*/\1/p}; /^$command:/,/^[a-zE]/d" |
+            sed -n "/^$command:/,/^[a-zE]/{/^  --/s/^  \(--[a-z-]*\).*/\1/p}; /^$command:/,/^[a-zE]/d" |
             sort -u)" -- "$word")
     fi
 } && complete -F _hls_origin hls_origin
@@ -28,4 +28,4 @@ _hls_tool() {
             compgen -f -- "$word"
         )
     fi
-} && complete -o filenames -F _hls_tool hls_archive hls_catchupd hls_edge hls_follow hls_handover hls_ingest hls_memory hls_metrics hls_places hls_programme hls_reap hls_run
+} && complete -o filenames -F _hls_tool hls_archive hls_channel hls_edge hls_ingest hls_metrics hls_programme

@@ -147,7 +147,7 @@ function namesOf(rows, count, known) {
     });
 }
 
-// For each place the first one whose fragments are all greater: in a sorted table all behind it are so too.
+// For each place the first one whose fragments are all greater: in a sorted table so are those of all later places.
 function firstBehind(table, places) {
     const first = new Int32Array(places);
     for (const { fragment } of table) {

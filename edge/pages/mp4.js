@@ -1,6 +1,6 @@
 // What the pages read of fragmented MP4 (ISO/IEC 14496-12; docs/FORMATS.md): of an init section its tracks and how a browser
 // names their codecs, of a unit when it begins, how long it is and whether it begins with a sync sample. Bytes are a stranger's:
-// a box that doesn't fit in its parent is passed over with all behind it. Nothing here is to be changed for a site.
+// a box that doesn't fit in its parent is skipped with all that follows it. Nothing here is to be changed for a site.
 "use strict";
 
 const viewOf = (bytes) => new DataView(bytes.buffer, bytes.byteOffset, bytes.byteLength);

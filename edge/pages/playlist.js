@@ -80,7 +80,7 @@ function whole(text) {
     return Number(text);
 }
 
-// One attribute begins where the one before ended: so a long line is read once, whatever stands in it.
+// One attribute begins where the one before ended: so a long line is read once, whatever it contains.
 function attributesOf(text) {
     const found = {};
     for (const [, name, quoted, plain] of text.matchAll(/([A-Z0-9-]+)=(?:"([^"]*)"|([^",]*))(?:, *|$)/gy)) found[name] = quoted ?? plain;
@@ -117,7 +117,7 @@ export function readMaster(text, base) {
     return found;
 }
 
-// `n@o`, or `n` behind the range before it: first and last byte.
+// `n@o`, or `n` after the range before it: first and last byte.
 function rangeOf(text, before) {
     const [length, offset] = text.split("@");
     if (offset === undefined && !before) throw new ListFault("A byte range has no beginning.");

@@ -66,7 +66,7 @@ export function surface(canvas, height) {
     return { pen, width, height, colour: palette() };
 }
 
-// A round step of which so many fit.
+// A round step that fits this many times.
 const stepOf = (span, most) => [1, 2, 5].flatMap((n) => Array.from({ length: 16 }, (_, e) => n * 10 ** e)).sort((a, b) => a - b).find((step) => span / step <= most) ?? span;
 
 /// Draws the prices of a certificate's places over time: the plan's as a line, the others as dots.

@@ -144,7 +144,7 @@ function listen() {
     document.addEventListener("resume", () => { if (played) play(); });
 }
 
-// A recording's certificate, which stands beside its list: checked here, when somebody wants to know.
+// A recording's certificate, which is beside its list: checked here on demand.
 async function prove(url) {
     if (!$("proof").open) return;
     $("verdict").textContent = "Its certificate is checked ..";

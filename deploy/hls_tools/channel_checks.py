@@ -1,0 +1,167 @@
+"""What doesn't fit in a channel's file, found before anything runs: each key's value, and what other channels of the machine have."""
+import difflib
+import glob
+import ipaddress
+import os
+import re
+import subprocess
+import urllib.parse
+from collections.abc import Callable
+from typing import NamedTuple
+
+from . import edge
+from .certificates import PROGRAM
+from .channels import FOLDER, NAME, Ladder, Wrong, option, read_values
+
+# What a channel's file may have: the origin's keys, those of its input, and those of the machine around it.
+KEYS = ("OPTIONS", "ADDRESS", "RENDITIONS", "SIZES", "RATE", "GROUP", "INPUT", "INPUT_OPTIONS", "ORIGINS", "VIDEO_OPTIONS", "EDGE", "STANDBY", "SENDERS")
+PRIVATE = "10.0.0.0/8 172.16.0.0/12 192.168.0.0/16"       # who may connect to an origin if SENDERS isn't given
+
+
+class Need(NamedTuple):
+    """What the program says that a channel needs, as systemd takes it."""
+
+    address_space: str
+    memory: str
+
+
+def name_of(path: str) -> str:
+    """Returns a channel's name, which its file has."""
+    return os.path.splitext(os.path.basename(path))[0]
+
+
+def places_of(values: dict[str, str]) -> list[str]:
+    """Returns where the edge has a channel, tested."""
+    return [edge.where(one) for one in values.get("EDGE", "").replace(",", " ").split()]
+
+
+def origins_at_edge(values: dict[str, str]) -> list[str]:
+    """Returns the addresses that the edge asks, tested: the channel's own on this machine, and its standby's."""
+    own = values.get("ADDRESS", "").replace("0.0.0.0:", "127.0.0.1:")
+    return [edge.address(one) for one in (own, *values.get("STANDBY", "").split())]
+
+
+def senders_of(values: dict[str, str]) -> list[str]:
+    """Returns the networks that may connect to the origin, and so send to it, tested. The channel's other origin is one of them."""
+    try:
+        found = [ipaddress.ip_network(one) for one in values.get("SENDERS", PRIVATE).split()]
+    except ValueError as fault:
+        raise Wrong(f"SENDERS: {fault}") from None
+    others = [ipaddress.ip_network(edge.address(one).rpartition(":")[0].strip("[]")) for one in values.get("STANDBY", "").split()]
+    return [str(one) for one in [*found, *(one for one in others if not any(one.version == there.version and one.subnet_of(there) for there in found))]]  # type: ignore[arg-type]
+
+
+def listens_at(values: dict[str, str]) -> str | None:
+    """Returns the port at which the input is waited for, or None if it is fetched."""
+    try:
+        url = urllib.parse.urlsplit(values.get("INPUT", ""))
+        port = url.port
+    except ValueError:
+        return None
+    if url.scheme == "srt" and "mode=listener" in url.query or url.scheme == "udp":
+        return f"udp {port}"
+    return f"tcp {port or 1935}" if url.scheme.startswith("rtmp") and "-listen" in values.get("INPUT_OPTIONS", "") else None
+
+
+def journal_of(values: dict[str, str], name: str) -> str | None:
+    """Returns the folder of a channel's journal; one in another channel's state folder is a line that was copied."""
+    folder = option(values, "--journal", "")
+    if origins_at_edge(values)[1:] and not folder:
+        raise Wrong(f"OPTIONS: a channel with two origins needs a journal: write --journal /var/lib/hls_origin/{name}/channel")
+    if (found := re.match(r"/var/lib/hls_origin/([^/]+)/", folder)) and found[1] != name:
+        raise Wrong(f"OPTIONS: --journal {folder} is in the folder of {found[1]}: write /var/lib/hls_origin/{name}/channel")
+    return folder or None
+
+
+def need_of(values: dict[str, str]) -> Need:
+    """Asks the program what a channel needs; it names a wrong argument of serve."""
+    words = [*values.get("OPTIONS", "").split(), values.get("ADDRESS", ""), *values.get("RENDITIONS", "").split()]
+    try:
+        done = subprocess.run([PROGRAM, "size", *words], stdin=subprocess.DEVNULL, capture_output=True, text=True, errors="replace", timeout=20)
+    except (OSError, subprocess.TimeoutExpired) as fault:
+        raise Wrong(f"{PROGRAM} can't be run: {fault}") from fault
+    found = dict(re.findall(r"^(LimitAS|MemoryMax)=(\d+[KMGT]?)$", done.stdout, re.M))
+    if done.returncode or len(found) != 2:
+        line = done.stderr.strip().split("\n")[0] or f"{PROGRAM} size ends with status {done.returncode}"
+        raise Wrong("OPTIONS, ADDRESS or RENDITIONS: " + re.sub(r"^\w+: ", "", line))
+    return Need(found["LimitAS"], found["MemoryMax"])
+
+
+def others(path: str, folder: str) -> dict[str, dict[str, str]]:
+    """Returns the other channels of the machine that can be read, by name."""
+    found = {}
+    for other in sorted(glob.glob(os.path.join(glob.escape(folder), "*.conf"))):
+        if name_of(other) != name_of(path):
+            try:
+                found[name_of(other)] = read_values(other)
+            except Wrong:
+                continue
+    return found
+
+
+def collisions(values: dict[str, str], other: dict[str, str]) -> list[str]:
+    """Returns what two channels of a machine can't both have."""
+    found = []
+    (host, _, port), (other_host, _, other_port) = (one.get("ADDRESS", "").rpartition(":") for one in (values, other))
+    if port == other_port and (host == other_host or "0.0.0.0" in (host, other_host)):
+        found.append(f"ADDRESS: port {port}")
+    if (listens := listens_at(values)) and listens == listens_at(other):
+        found.append(f"INPUT: {listens.split()[0].upper()} port {listens.split()[1]}")
+    if (folder := option(values, "--journal", "")) and folder == option(other, "--journal", ""):
+        found.append(f"OPTIONS: --journal {folder}")
+    both = set(values.get("EDGE", "").replace(",", " ").split()) & set(other.get("EDGE", "").replace(",", " ").split())
+    return found + [f"EDGE: {one}" for one in sorted(both)]
+
+
+def faults_of(path: str, folder: str = FOLDER, channels: str | None = None) -> list[str]:
+    """Returns what is wrong in a channel's file, a line for each fault. `channels` is the edge's file of channels."""
+    try:
+        values = read_values(path)
+    except Wrong as fault:
+        return [str(fault)]
+    found = [] if re.fullmatch(NAME, name_of(path)) else [f"{name_of(path)!r} is no channel's name: a-z, 0-9, _ and -, at most 24"]
+    for key in values:
+        if key not in KEYS:
+            close = difflib.get_close_matches(key.upper(), KEYS, 1)
+            found.append(f"{key} is no key of a channel" + (f": {close[0]}?" if close else f"; the keys are {' '.join(KEYS)}"))
+    found += [f"{key} is missing" for key in ("ADDRESS", "RENDITIONS") if not values.get(key)]
+    checks: list[Callable[[dict[str, str]], object]] = [] if found else [need_of, places_of, origins_at_edge, senders_of, lambda values: journal_of(values, name_of(path))]
+    if values.get("INPUT") and checks:
+        checks.append(lambda values: Ladder(values, path))
+    for check in checks:
+        try:
+            check(values)
+        except Wrong as fault:
+            found += [str(fault)] * (str(fault) not in found)
+    for name, other in others(path, folder).items():
+        found += [f"{one} is {name}'s" for one in collisions(values, other)]
+    if channels and os.path.exists(channels) and not found:
+        try:
+            for name, channel in edge.read_channels(channels).items():
+                found += [f"EDGE: {one} is {name}'s in {channels}" for one in places_of(values) if one in channel["places"] and name != name_of(path)]
+        except Wrong as fault:
+            found.append(str(fault))
+    return found
+
+
+def in_bytes(text: str) -> int:
+    """Reads a number of bytes as systemd writes it."""
+    return int(text.rstrip("KMGT")) << {"K": 10, "M": 20, "G": 30, "T": 40}.get(text[-1:], 0)
+
+
+def warnings_of(path: str, folder: str = FOLDER, memory: int | None = None) -> list[str]:
+    """Returns what works and is rarely meant, of a file without faults."""
+    values, found = read_values(path), []
+    url = values.get("INPUT", "")
+    if listens_at(values) and url.startswith("srt") and "passphrase=" not in url and not re.match(r"srt://(127\.|localhost)", url):
+        found.append("INPUT: whoever reaches this port may send: add &passphrase=.. (10 to 79 characters)")
+    memory = os.sysconf("SC_PHYS_PAGES") * os.sysconf("SC_PAGE_SIZE") if memory is None else memory
+    total = in_bytes(need_of(values).memory)
+    for other in others(path, folder).values():
+        try:
+            total += in_bytes(need_of(other).memory)
+        except Wrong:
+            continue
+    if total > memory:
+        found.append(f"all channels together may need {total >> 20} MiB, and the machine has {memory >> 20}: shorten --keep, or spread them over machines")
+    return found

@@ -1,0 +1,176 @@
+"""A channel's file, /etc/hls_origin/CHANNEL.conf: read as systemd reads it, and tested before anything runs."""
+import os
+import re
+import shlex
+import urllib.parse
+from fractions import Fraction
+from typing import NamedTuple
+
+from .failures import Failure
+
+FOLDER = "/etc/hls_origin"
+SOUND_RATE = 48000
+AAC_FRAME = 1024            # samples: what an AAC frame holds, and what the encoder puts in front of its input
+ADDRESS = r"(?:0|[1-9][0-9]{0,2})(?:\.(?:0|[1-9][0-9]{0,2})){3}:[1-9][0-9]{0,4}"
+NAME = "[a-z0-9][a-z0-9_-]{0,23}"
+
+
+class Wrong(Failure):
+    """A value of the file that can't be, and what to write."""
+
+    def __init__(self, text: object) -> None:
+        super().__init__(text, 2)
+
+
+class Rendition(NamedTuple):
+    """A rendition as `serve` takes it: a tolerance is in µs."""
+
+    name: str
+    kind: str
+    bits: int
+    tolerance: int
+
+
+def read_values(path: str) -> dict[str, str]:
+    """Reads KEY=value or KEY="value" lines, as systemd reads an EnvironmentFile."""
+    found: dict[str, str] = {}
+    try:
+        with open(path, encoding="utf-8") as file:
+            text = file.read(1 << 20)
+        if text.startswith("\ufeff"):
+            raise ValueError("it begins with a byte order mark, after which systemd reads no key: save it without")
+        if "\0" in text:
+            raise ValueError("it has bytes that are no text")
+        for line in text.split("\n"):
+            if line.strip() and line.lstrip()[0] not in "#;":
+                key, _, value = line.strip().partition("=")
+                found[key] = " ".join(shlex.split(value))
+    except (OSError, ValueError) as why:
+        raise Wrong(f"{path} can't be read: {why}") from why
+    return found
+
+
+def reachable(address: str) -> str:
+    """Returns the address at which this machine reaches a listener: one that listens everywhere is asked here."""
+    return address.strip().replace("0.0.0.0:", "127.0.0.1:")
+
+
+def address_of_file(path: str) -> str:
+    """Returns the address of the process that serves a channel, by its file."""
+    if not os.path.exists(path):
+        raise Failure(f"{path} is neither an origin's address (http://HOST:PORT) nor a channel's file", 2)
+    address = read_values(path).get("ADDRESS", "")
+    if not re.fullmatch(ADDRESS, address):
+        raise Wrong(f"{path}: ADDRESS isn't a.b.c.d:port")
+    return reachable(address)
+
+
+def option(values: dict[str, str], name: str, default: str) -> str:
+    """Returns the value of an option of serve."""
+    options = values.get("OPTIONS", "").split()
+    return options[options.index(name) + 1] if name in options[:-1] else default
+
+
+def number(values: dict[str, str], name: str, default: int) -> int:
+    """Returns the number after an option of serve."""
+    text = option(values, name, str(default))
+    if not re.fullmatch("[0-9]{1,16}", text):
+        raise Wrong(f"OPTIONS: {name} {text} isn't a number")
+    return int(text)
+
+
+def read_rendition(spec: str) -> Rendition:
+    """Reads an argument of serve."""
+    if not (found := re.fullmatch(r"([A-Za-z0-9_-]{1,32}):(video|audio):([1-9][0-9]{3,12}):([0-9]{1,6})", spec)):
+        raise Wrong(f"RENDITIONS: {spec} isn't name:kind:bandwidth:tolerance, the bandwidth in bits a second, 1000 or more")
+    return Rendition(found[1], found[2], int(found[3]), int(found[4]))
+
+
+def check_url(place: int, text: str) -> None:
+    """Tests where units can be sent; its text may have a password in it, so it isn't repeated."""
+    try:
+        url = urllib.parse.urlsplit(text)
+        good = text.isascii() and url.scheme in ("http", "https") and url.hostname and url.port != 0
+    except ValueError:
+        good = False
+    if not good:
+        raise Wrong(f"ORIGINS: address {place} isn't http://HOST:PORT, followed by a path or nothing")
+
+
+def origins_of(values: dict[str, str]) -> list[str]:
+    """Returns the URLs of the origins that get a channel's units."""
+    found = values.get("ORIGINS", "").split() or ["http://" + reachable(values["ADDRESS"])]
+    for place, origin in enumerate(found, 1):
+        check_url(place, origin)
+    return found
+
+
+class Ladder:
+    """What a channel's file says of its input and its ladder, tested."""
+
+    def __init__(self, values: dict[str, str], path: str) -> None:
+        self.path, self.values = path, values
+        for key in ("RENDITIONS", "ADDRESS", "SIZES", "RATE", "GROUP", "INPUT"):
+            if not values.get(key, "").strip():
+                raise Wrong(f"{key} is missing; hls_ingest --help says what it is")
+        self.input_options, self.video_options = self.split("INPUT_OPTIONS", ""), self.split("VIDEO_OPTIONS", "-c:v libx264 -preset veryfast")
+        self.renditions = [read_rendition(spec) for spec in values["RENDITIONS"].split()]
+        self.videos = [one for one in self.renditions if one.kind == "video"]
+        self.audios = [one for one in self.renditions if one.kind == "audio"]
+        self.sizes = [self.size(text) for text in values["SIZES"].split()]
+        if self.renditions[0].kind != "video" or len(self.sizes) != len(self.videos):
+            raise Wrong(f"SIZES has {len(self.sizes)} sizes for {len(self.videos)} videos, the first of which must be RENDITIONS' first")
+        self.canvas = max(self.sizes)
+        try:
+            self.rate, self.pictures = Fraction(values["RATE"]), int(values["GROUP"])
+            self.group = self.pictures / self.rate
+            if not (1 <= self.rate <= 240 and self.pictures > 0):
+                raise ValueError
+        except (ValueError, ZeroDivisionError) as why:
+            raise Wrong("RATE is 25 or 30000/1001, from 1 to 240; GROUP a number of pictures, 1 or more") from why
+        if not re.fullmatch(ADDRESS, values["ADDRESS"].strip()):
+            raise Wrong(f"ADDRESS: {values['ADDRESS']} isn't a.b.c.d:port")
+        self.origins = origins_of(values)
+        self.check_lengths()
+
+    def input_place(self) -> str:
+        """Returns the input's address without its passphrase, key or password."""
+        found = re.match(r"([a-z]+)://(?:[^/?#]*@)?([^/?#@]*)", self.values["INPUT"])
+        return f"{found[1]}://{found[2]}" if found else self.values["INPUT"]
+
+    def split(self, key: str, default: str) -> list[str]:
+        """Returns the arguments in a value with options of ffmpeg."""
+        try:
+            return shlex.split(self.values.get(key, default))
+        except ValueError as why:
+            raise Wrong(f"{key}: {why}") from why
+
+    @staticmethod
+    def size(text: str) -> tuple[int, int]:
+        """Reads a picture's width and height."""
+        found = re.fullmatch(r"([0-9]{2,4})x([0-9]{2,4})", text)
+        if not found or any(int(found[at]) % 2 or int(found[at]) < 16 for at in (1, 2)):
+            raise Wrong(f"SIZES: {text} isn't WIDTHxHEIGHT in even numbers from 16 on")
+        return int(found[1]), int(found[2])
+
+    def check_lengths(self) -> None:
+        """Tests that groups of pictures, units of audio, segments and dates fit each other."""
+        length = self.group * 1_000_000
+        if length.denominator != 1:
+            raise Wrong(f"GROUP: {self.pictures} pictures aren't a whole number of microseconds at RATE {self.rate}; 60 are at 30000/1001")
+        target, preferred = number(self.values, "--target", 6), number(self.values, "--preferred", 4_000_000)
+        if preferred == 0 or preferred % length:
+            better = max(1, int(preferred / length)) * int(length)
+            raise Wrong(f"OPTIONS: --preferred {preferred} isn't a whole number of groups of {length} µs; write --preferred {better}")
+        if preferred > target * 1_000_000:
+            raise Wrong(f"OPTIONS: --preferred {preferred} is longer than --target {target}")
+        if option(self.values, "--epoch", "") != "1970-01-01T00:00:00Z":
+            raise Wrong("OPTIONS: the encoders' clock counts from 1970; write --epoch 1970-01-01T00:00:00Z")
+        for one in self.audios:
+            # a unit of audio begins with the first AAC frame that begins with or after a group of pictures
+            if one.tolerance < AAC_FRAME * 1_000_000 // SOUND_RATE + 1:
+                raise Wrong(f"RENDITIONS: {one.name} has tolerance {one.tolerance}, less than an AAC frame; write 22000")
+
+    def samples(self, pictures: int) -> int:
+        """Returns the number of sound samples in a number of pictures."""
+        return pictures * SOUND_RATE * self.rate.denominator // self.rate.numerator

@@ -1,0 +1,169 @@
+"""The edge's files for nginx: the file of channels, and the maps and upstreams that are written from it (docs/EDGE.md)."""
+import fcntl
+import ipaddress
+import os
+import re
+import subprocess
+import urllib.request
+from collections.abc import Iterable, Mapping, Sequence
+from typing import IO, TypedDict
+
+from .channels import NAME, Wrong
+
+FOLDER = "/etc/nginx/hls_origin"
+HOST = r"[a-z0-9]([a-z0-9-]*[a-z0-9])?(\.[a-z0-9]([a-z0-9-]*[a-z0-9])?)*"
+RUN = "[A-Za-z0-9]{1,16}"
+# First words of the edge's own paths: a channel at one of these would hide them.
+TAKEN = {"/hls", "/origin"}
+DOORS = ("operators", "encoders")
+# A user with limits of his own. (A longer name doesn't fit into a bucket of nginx's hash, so it shares the limits of strangers.)
+USER = r"[A-Za-z0-9_.@-]{1,20}"
+DIRECT = urllib.request.build_opener(urllib.request.ProxyHandler({}))
+
+
+class Channel(TypedDict):
+    """A channel's places at the edge, and its origins' addresses."""
+
+    places: list[str]
+    origins: list[str]
+
+
+
+def address(text: str) -> str:
+    """An origin's address as nginx wants it. A name would have to be resolved when nginx starts."""
+    found = re.fullmatch(r"(\[[0-9a-fA-F:.]+\]|[0-9.]+):([1-9][0-9]{0,4})", text)
+    try:
+        if found is None or int(found[2]) > 65535:
+            raise ValueError
+        # of the many spellings of an IPv6 address the one that nginx logs; ::ffff:a.b.c.d is the same host as a.b.c.d
+        host = ipaddress.IPv6Address(found[1][1:-1]) if found[1][0] == "[" else ipaddress.IPv4Address(found[1])
+        host = getattr(host, "ipv4_mapped", None) or host
+    except ValueError:
+        raise Wrong(f"{text!r} is no IP:PORT") from None
+    return f"[{host}]:{found[2]}" if host.version == 6 else f"{host}:{found[2]}"
+
+
+def where(text: str) -> str:
+    """A channel's place: a path of every host, a host of its own, or every other host."""
+    if not (text == "/" or re.fullmatch("/" + NAME, text) or re.fullmatch(HOST, text)):
+        raise Wrong(f"{text!r} is neither /PREFIX (a-z, 0-9, _ and -, at most 24) nor a HOST in small letters nor /")
+    if text in TAKEN:
+        raise Wrong(f"{text!r} is a path of the edge's own")
+    return text
+
+
+def read_channels(path: str) -> dict[str, Channel]:
+    """The channels by name, each with its places and origins, in the order of the file."""
+    channels: dict[str, Channel] = {}
+    seen: dict[str, str] = {}
+    with open(path, encoding="utf-8", errors="replace") as file:
+        for number, line in enumerate(file, 1):
+            words = line.split("#")[0].split()
+            if not words:
+                continue
+            try:
+                if len(words) != 3:
+                    raise Wrong("a line has three words: NAME WHERE[,WHERE..] ORIGIN[,ORIGIN]")
+                name, places, origins = words[0], [where(one) for one in words[1].split(",")], [address(one) for one in words[2].split(",")]
+                if not re.fullmatch(NAME, name) or name in channels:
+                    raise Wrong(f"{name!r} is a second line's" if name in channels else f"{name!r} is no name: a-z, 0-9, _ and -, at most 24")
+                if len(origins) > 2 or len(set(origins)) != len(origins):
+                    raise Wrong("a channel has one origin or two different ones")
+                # a line that was copied, with something left to change
+                for one in places + origins:
+                    if one in seen:
+                        raise Wrong(f"{one} is {seen[one]}'s")
+                    seen[one] = name
+            except Wrong as fault:
+                raise Wrong(f"{path}, line {number}: {fault}") from None
+            channels[name] = {"places": places, "origins": origins}
+    return channels
+
+
+def write_whole(path: str, text: str, mode: int) -> None:
+    """Writes a file atomically."""
+    with open(os.open(path + ".new", os.O_WRONLY | os.O_CREAT | os.O_TRUNC, mode), "w", encoding="utf-8", errors="surrogateescape") as file:
+        os.fchmod(file.fileno(), mode)
+        file.write(text)
+        file.flush()
+        os.fsync(file.fileno())
+    os.replace(path + ".new", path)
+
+
+def run_of(origin: str, seconds: float = 2) -> str | None:
+    """The run of an origin's process, or None if it doesn't answer."""
+    try:
+        with DIRECT.open(f"http://{origin}/hls/run", timeout=seconds) as reply:
+            found = re.fullmatch(RUN, reply.read(100).decode("ascii", "replace").strip())
+            return found[0] if found else None
+    except (OSError, ValueError):
+        return None
+
+
+def users_of(folder: str, name: str) -> list[str]:
+    """User names in a channel's password files."""
+    found = set()
+    for door in DOORS:
+        path = os.path.join(folder, door, name + ".htpasswd")
+        if os.path.exists(path):
+            with open(path, encoding="utf-8", errors="replace") as file:
+                found |= {line.partition(":")[0] for line in file}
+    return sorted(one for one in found if re.fullmatch(USER, one))
+
+
+def map_of(key: str, value: str, default: str, lines: Iterable[str]) -> str:
+    return "\n".join([f"map {key} {value} {{", f"    default {default};", *(f"    {line};" for line in lines), "}"])
+
+
+def places_of(channels: Mapping[str, Channel]) -> list[str]:
+    """The maps from a prefix and a host to a channel. Hosts may be longer than a hash's buckets, so they are looked up by patterns."""
+    places = [(place, name) for name, channel in channels.items() for place in channel["places"]]
+    others = next((name for place, name in places if place == "/"), '""')
+    hosts = [(f'"~^{re.escape(place)}$"', name) for place, name in places if place[0] != "/"]
+    return [map_of("$host", "$hls_channel_of_host", others, [f"{place} {name}" for place, name in hosts]), map_of("$host", "$hls_at_host", '""', [f"{place} 1" for place, _ in hosts]),
+            map_of("$hls_prefix", "$hls_channel", '""', [f'"" {"$hls_channel_of_host" if hosts else others}'] + [f"{place} {name}" for place, name in places if place[0] == "/" != place])]
+
+
+def upstreams(name: str, origins: Sequence[str]) -> str:
+    """The origins that serve, as number 0, and each by its number; no channel name has a dot. The serving one is there twice, so that one lost packet is retried at the
+    same origin. With one origin there is nothing to fail over to, so it is always tried."""
+    servers = [f"server {origins[0]} max_fails=0;"] * 2 if len(origins) == 1 else [f"server {origins[0]} max_fails=5 fail_timeout=10s;"] * 2 + [f"server {origins[1]} max_fails=0 backup;"]
+    blocks = [(f"hls_{name}.0", servers)] + [(f"hls_{name}.{number}", [f"server {one} max_fails=0;"]) for number, one in enumerate(origins, 1)]
+    return "\n".join(f"upstream {block} {{\n    zone {block} 64k;\n    " + "\n    ".join(lines) + "\n}" for block, lines in blocks)
+
+
+def generated(channels: Mapping[str, Channel], users: Mapping[str, list[str]]) -> str:
+    """The text of generated.conf."""
+    stand_ins = [one for channel in channels.values() for one in channel["origins"][1:]]
+    return "\n\n".join([
+        "# Written by hls_edge from `channels`, and written again by it: nothing is to be changed here.",
+        *places_of(channels),
+        map_of('"$hls_channel $remote_user"', "$hls_known_user", '""', [f'"{name} {user}" {user}' for name in channels for user in users[name]]),
+        map_of('"$hls_channel $hls_number"', "$hls_process", '""', [f'"{name} {n}" {name}.{n}' for name, channel in channels.items() for n in range(1, len(channel["origins"]) + 1)]),
+        map_of("$upstream_addr", "$in_stand_in", '""', [f'"~(^|[ ,]){re.escape(one)}$" 1' for one in stand_ins]),
+        *(upstreams(name, channel["origins"]) for name, channel in channels.items()),
+    ]) + "\n"
+
+
+def locked(folder: str) -> IO[str]:
+    """The file by which those who change a folder wait for each other: root's alone, since who may open it may hold it."""
+    lock = open(os.open(os.path.join(folder, ".lock"), os.O_WRONLY | os.O_CREAT, 0o600), "w", encoding="utf-8")
+    fcntl.flock(lock, fcntl.LOCK_EX)
+    return lock
+
+
+def apply(folder: str, nginx: Sequence[str], reload: bool = True) -> str | None:
+    """Writes, tests and reloads, with the folder locked; what went wrong, or None."""
+    channels, path = read_channels(os.path.join(folder, "channels")), os.path.join(folder, "generated.conf")
+    before = open(path, encoding="utf-8").read() if os.path.isfile(path) else None
+    text = generated(channels, {name: users_of(folder, name) for name in channels})
+    write_whole(path, text, 0o600)
+    tried = subprocess.run([*nginx, "-t"], capture_output=True, text=True)
+    if tried.returncode:
+        os.rename(path, path + ".refused")
+        if before is not None:
+            write_whole(path, before, 0o600)
+        return f"{tried.stderr.strip()}\nhls_edge: nginx refused it, and keeps running as before; what it refused is {path}.refused"
+    done = subprocess.run([*nginx, "-s", "reload"], capture_output=True, text=True) if reload else None
+    return f"{done.stderr.strip()}\nhls_edge: {path} is right, but nginx took no reload: is it running?" if done and done.returncode else None
+

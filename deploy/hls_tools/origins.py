@@ -1,0 +1,176 @@
+"""The client of an origin: requests over one connection, opened again if it broke, by the origin itself or through an edge.
+
+A response is taken for no more than it is: it has a longest length and a longest time, and what no origin sends is a failure.
+"""
+import base64
+import contextlib
+import http.client
+import netrc
+import re
+import socket
+import ssl
+import threading
+import time
+import urllib.parse
+from collections.abc import Mapping
+from typing import NamedTuple
+
+from .channels import address_of_file
+from .failures import Failure
+
+TIMEOUT = 20.0                                  # seconds that an origin may be silent
+PATIENCE = 5.0                                  # seconds after which an origin that can't be reached is given up
+BUSY = 60.0                                     # seconds for which a request that is put off (429, or 503 with Retry-After) is sent again
+PAUSE = 0.2                                     # seconds between two tries
+SLOWEST = 16 << 10                              # bytes a second of the slowest link
+UNIT = 1 << 26                                  # bytes of the largest unit
+LONG = 1 << 18                                  # bytes of a long text: it has no time for more on the slowest link, and media for a unit
+SHORT = 4096                                    # bytes of a line
+TEXT = 1 << 24                                  # bytes of a playlist or a certificate
+HOST = r"[A-Za-z0-9]+(?:(?:\.|-+)[A-Za-z0-9]+)*"
+BROKEN = (OSError, http.client.HTTPException, ValueError)
+
+
+class Unreachable(Failure):
+    """The origin doesn't answer."""
+
+
+class Response(NamedTuple):
+    """A response that was read to its end."""
+
+    status: int
+    headers: http.client.HTTPMessage
+    body: bytes
+
+
+def printable(content: bytes) -> str:
+    """Returns what an origin sent as far as a terminal may show it."""
+    return re.sub(r"[^ -~]", ".", content[:200].decode("ascii", "replace").strip()) or "nothing"
+
+
+def url_of(word: str) -> str:
+    """Returns the URL of an origin that is given as a URL, as HOST:PORT, or as a channel's file."""
+    if "://" in word:
+        return word
+    if re.fullmatch(HOST + r":[1-9][0-9]{0,4}/?", word):
+        return "http://" + word
+    return "http://" + address_of_file(word)
+
+
+def trust(authority: str | None) -> ssl.SSLContext:
+    """Returns a TLS context that trusts the machine's certificate authorities, or those of a file instead."""
+    try:
+        return ssl.create_default_context(cafile=authority)
+    except OSError as fault:
+        raise Failure(f"--ca {authority}: {fault.strerror if fault.errno else 'it has no certificate (PEM)'}", 2) from fault
+
+
+class Origin:
+    """An origin, by its own address or by a channel's URL at an edge. A user and a password are the URL's, or those of ~/.netrc."""
+
+    def __init__(self, word: str, *, authority: str | None = None, agent: str = "hls_tools", timeout: float = TIMEOUT, patience: float = PATIENCE) -> None:
+        url = urllib.parse.urlsplit(url_of(word))
+        try:
+            usable = url.scheme in ("http", "https") and url.hostname is not None and url.port != 0 and not url.query and not url.fragment
+        except ValueError:
+            usable = False
+        if not usable or not re.fullmatch(HOST + r"|[0-9a-f:.]+", url.hostname or ""):
+            raise Failure(f"{word} is no origin's address: write it as 10.0.0.1:8080, or as a channel's at an edge, https://edge.example.org/news", 2)
+        self.prefix = url.path.rstrip("/")
+        place = url.netloc.rpartition("@")[2]
+        self.url = f"{url.scheme}://{place}{self.prefix}"
+        self.name = place if url.scheme == "http" and not self.prefix else self.url
+        self.timeout, self.patience = timeout, patience
+        self.is_over = False
+        self.headers = {"User-Agent": agent, **self._authorization(url)}
+        self.connection: http.client.HTTPConnection
+        if url.scheme == "https":
+            self.connection = http.client.HTTPSConnection(url.hostname or "", url.port, timeout=timeout, context=trust(authority))
+        else:
+            self.connection = http.client.HTTPConnection(url.hostname or "", url.port, timeout=timeout)
+
+    @staticmethod
+    def _authorization(url: urllib.parse.SplitResult) -> dict[str, str]:
+        known = (url.username, url.password or "") if url.username else None
+        with contextlib.suppress(OSError, netrc.NetrcParseError):
+            found = None if known else netrc.netrc().authenticators(url.hostname or "")
+            known = (found[0], found[2] or "") if found else known
+        if known is None:
+            return {}
+        pair = ":".join(urllib.parse.unquote(one) for one in known)
+        return {"Authorization": "Basic " + base64.b64encode(pair.encode()).decode()}
+
+    def ask(self, method: str, path: str, limit: int = SHORT, headers: Mapping[str, str] | None = None, body: bytes | None = None) -> Response:
+        """Sends a request, and again while patience lasts if the connection breaks. (A unit that arrives twice is recorded once.)"""
+        begun = time.monotonic()
+        while True:
+            try:
+                response = self._once(method, path, limit, {**self.headers, **(headers or {})}, body)
+            except ssl.SSLCertVerificationError as fault:
+                raise Failure(f"{self.url}: the edge's certificate isn't trusted ({fault.verify_message}): give --ca FILE with the authority that "
+                              "signed it, or with the certificate itself if it is self-signed") from fault
+            except BROKEN as fault:
+                if time.monotonic() - begun >= self.patience or self.is_over:
+                    raise Unreachable(f"{self.name} doesn't answer {method} {path}: {printable(str(fault).encode()) if str(fault) else type(fault).__name__}") from None
+                time.sleep(PAUSE)
+                continue
+            wait = self._put_off(method, response)
+            if wait is None or time.monotonic() - begun > (self.patience if response.status in (502, 504) else BUSY):
+                return response
+            time.sleep(wait)
+
+    @staticmethod
+    def _put_off(method: str, response: Response) -> float | None:
+        """Returns the seconds after which the same request may succeed, or None if it is answered."""
+        if method not in ("GET", "HEAD"):
+            return None
+        if response.status == 503 and (found := re.fullmatch(r"[0-9]{1,3}", response.headers.get("Retry-After", ""))):
+            return min(10.0, float(found[0]))
+        # an edge that limits requests, or that has lost its origin for a moment
+        return {429: 1.0, 502: PAUSE, 504: PAUSE}.get(response.status)
+
+    def _once(self, method: str, path: str, limit: int, headers: Mapping[str, str], body: bytes | None) -> Response:
+        seconds = self.timeout + (min(limit, UNIT if "Range" in headers else LONG) + len(body or b"")) / SLOWEST
+        late = threading.Timer(seconds, self._cut)
+        late.start()
+        try:
+            if self.is_over:
+                raise ConnectionAbortedError("it had its time")
+            self.connection.request(method, self.prefix + path, body, dict(headers))
+            reply = self.connection.getresponse()
+            content = reply.read(limit + 1)
+            if len(content) > limit:
+                self.connection.close()
+                raise Failure(f"{self.name}: {path} has more than {limit} bytes: this isn't an origin")
+            if method != "HEAD" and reply.length or not late.is_alive():
+                raise http.client.IncompleteRead(content)
+            if reply.will_close or not reply.isclosed():
+                self.connection.close()
+            return Response(reply.status, reply.headers, content)
+        except BROKEN:
+            self.connection.close()
+            if not late.is_alive():
+                raise Unreachable(f"{self.name} doesn't answer: {path} wasn't done in {seconds:.0f} s") from None
+            raise
+        finally:
+            late.cancel()
+
+    def cut(self) -> None:
+        """Ends a request from another thread, and each one after it."""
+        self.is_over = True
+        self._cut()
+
+    def _cut(self) -> None:
+        """Ends a response that takes too long."""
+        with contextlib.suppress(OSError, AttributeError):
+            self.connection.sock.shutdown(socket.SHUT_RDWR)
+
+    def text(self, path: str, limit: int = TEXT) -> str:
+        """Returns a text that has to be there."""
+        response = self.ask("GET", path, limit)
+        if response.status != 200:
+            raise Failure(f"{self.name}: {path} is {response.status}: {printable(response.body)}")
+        try:
+            return response.body.decode("ascii")
+        except UnicodeDecodeError:
+            raise Failure(f"{self.name}: {path} isn't ASCII: this isn't an origin") from None
