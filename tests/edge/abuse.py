@@ -1,11 +1,9 @@
 """What strangers, other sites' pages and neighbours at an encoder's address do to the edge: floods of requests and of arguments, the
-routes of operators and encoders, jobs, programmes.
+routes of operators and encoders.
 
 Not a script: tests/edge/attacks runs it on its site, whose channel `news` is at / and `sport` at /sport.
 """
-import asyncio
 import base64
-import http.server
 import json
 import os
 import re
@@ -17,11 +15,10 @@ import threading
 import time
 import types
 
-from edge_site import ENCODER, OPERATOR, Edge, media_of, write
+from edge_site import ENCODER, OPERATOR, media_of, write
 from harness import ROOT, check, free_port
 from origins import need
-from programme_faults import Watchers
-from programme_tools import Daemon, tool
+from programme_tools import tool
 
 SVEN, EMMA = ("sven", "another's"), ("emma", "her own")
 
@@ -45,13 +42,6 @@ def flood(edge, requests, here, port=None):
 
 def request(target, more="", method="GET", last=False):
     return f"{method} {target} HTTP/1.1\r\nHost: localhost\r\n{'Connection: close' if last else 'Connection: keep-alive'}\r\n{more}\r\n"
-
-
-def just_aired(edge, prefix=""):
-    """A second of a channel that keeps twelve more; segments have two each."""
-    time.sleep(2.2)
-    text = edge.ask("GET", f"{prefix}/hls/0.m3u8")[2].decode()
-    return 2 * (int(re.search(r"MEDIA-SEQUENCE:([0-9]+)", text)[1]) + text.count("#EXTINF")) - 16
 
 
 # HTTP/2, as far as it is needed: fields without a table, and what comes back frame by frame.
@@ -308,286 +298,20 @@ def guessed(site):
     check("and the test's own again", edge.edge().returncode == 0)
 
 
-# Jobs
+# Segments that aren't cached
 
-def job_segments(site):
-    """Segments of jobs are asked for by fewer requests a second than live ones: they have as many names as somebody makes jobs."""
+def made_up_segments(site):
+    """Paths that a client makes up are asked for by fewer requests a second than listed ones."""
     edge = site.edge
-    job = site.job(1, "/sport", just_aired(edge, "/sport"))
     live = site.segments()[0]
     made_up = [live[0].replace("-", f"-{n}") for n in range(1, 301)]
-    # however they are spelled
-    for kind, here, paths in (("of a job", "127.9.75.1", [f"{form}{job}/0.mp4" for form in ("", "/", "/x/..") for _ in range(100)]), ("that are made up", "127.9.75.3", made_up)):
-        statuses, seconds = flood(edge, [request(path, "Range: bytes=0-9007199254740991\r\n", "HEAD") for path in paths] + [request("/watch.html", last=True)], here)
-        passed = 300 - statuses[:-1].count(429)
-        check(f"300 segments {kind} at once: two hundred, and twenty a second", 200 <= passed <= 202 + 20 * seconds, (passed, seconds, {one: statuses.count(one) for one in set(statuses)}))
+    statuses, seconds = flood(edge, [request(path, "Range: bytes=0-9007199254740991\r\n", "HEAD") for path in made_up] + [request("/watch.html", last=True)], "127.9.75.3")
+    passed = 300 - statuses[:-1].count(429)
+    check("300 segments that are made up at once: two hundred, and twenty a second", 200 <= passed <= 202 + 20 * seconds, (passed, seconds, {one: statuses.count(one) for one in set(statuses)}))
     statuses, _ = flood(edge, [request(path, method="HEAD") for path in (live * 100)[:300]] + [request("/watch.html", last=True)], "127.9.75.2")
     check("300 live segments", statuses.count(200) == 301, {one: statuses.count(one) for one in set(statuses)})
     found = [edge.raw(live[-1], here="127.9.75.3")[0], edge.raw("/hls/0.m3u8", here="127.9.75.3")[0]]
     check("whoever asks for what isn't there still has what is", found == [200, 200], found)
-
-
-def deleted(site, folder):
-    """A job that an operator deletes: what the edge has of its lists, master and certificate goes when its life is over. That is shortened
-    here to two seconds."""
-    origin = site.origins[2]
-    os.makedirs(os.path.join(folder, "deleted"))
-    edge = Edge(os.path.join(folder, "deleted"), f"sport / 127.0.0.1:{origin.port}\n", changes=[("proxy_cache_valid 200 10s;", "proxy_cache_valid 200 2s;")])
-
-    def finished(location):
-        while edge.ask("GET", location, user=OPERATOR)[2].startswith((b"waiting", b"running")):
-            time.sleep(0.05)
-        return edge.edge("--job", "sport", "1", location.rpartition("/")[2]).stdout.strip()
-    try:
-        begins = just_aired(edge)
-        programme = f"/origin/1/catchup?from={begins}000000&to={begins + 8}000000"
-        location = edge.ask("POST", programme, body=b"", user=OPERATOR)[1]["location"]
-        job = finished(location).removesuffix("/master.m3u8")
-        names = [f"{job}/{name}" for name in ("master.m3u8", "0.m3u8", "certificate.txt")]
-        for _ in range(3):
-            found = [edge.ask("GET", name)[0] for name in names]
-            check("a job's files are there", found == [200] * 3, found)
-            time.sleep(1.5)
-        check("it is deleted", edge.ask("DELETE", location, user=OPERATOR)[0] == 204)
-        time.sleep(4)
-        for _ in range(2):
-            found = [edge.ask("GET", name)[0] for name in names]
-            check("and so are its files", found == [404] * 3, found)
-        # if no origin is reached at all, what was cached is served
-        again = edge.ask("POST", programme, body=b"", user=OPERATOR)[1]["location"]
-        job = finished(again)
-        check("another job", edge.ask("GET", job)[0] == 200)
-        os.kill(origin.process.pid, 19)
-        time.sleep(3.5)
-        status = edge.ask("GET", job)[0]
-        os.kill(origin.process.pid, 18)
-        check("an origin that says nothing ends no job", status == 200, status)
-    finally:
-        edge.stop()
-
-
-# Programmes
-
-class Catchup(threading.Thread):
-    """In place of hls_catchupd: what it is asked."""
-
-    def __init__(self, port):
-        super().__init__(daemon=True)
-        outer, self.asked = self, []
-
-        class Handler(http.server.BaseHTTPRequestHandler):
-            def do_GET(self):
-                outer.asked.append((self.path, {name.lower(): value for name, value in self.headers.items()}))
-                self.send_response(302)
-                self.send_header("Location", "/job/1/1/7/token/master.m3u8")
-                self.send_header("Content-Length", "0")
-                self.end_headers()
-            do_HEAD = do_POST = do_GET
-
-            def log_message(self, *_):
-                pass
-        self.server = http.server.ThreadingHTTPServer(("127.0.0.1", port), Handler)
-        self.start()
-
-    def run(self):
-        self.server.serve_forever()
-
-
-def programmes(site, forms):
-    """The location for hls_catchupd."""
-    edge = site.edge
-    daemon = Catchup(edge.catchup)
-    for n, (name, form) in enumerate({"nothing": "/watch", **forms("/watch"), "its channel": "/sport/watch"}.items()):
-        daemon.asked.clear()
-        got = edge.raw(form + "&from=1&to=2" if "?" in form else form + "?from=1&to=2", "X-Real-IP: 192.0.2.1\r\nCookie: a\r\nX-Forwarded-For: 192.0.2.2\r\n", here=f"127.9.76.{n + 1}")
-        path, fields = daemon.asked[0] if daemon.asked else ("", {})
-        check(f"/watch spelled with {name}", got[0] == 302 and got[1]["location"] == "/job/1/1/7/token/master.m3u8" and path.partition("?")[0] == ("/sport/watch" if "sport" in name + form else "/news/watch"), (got[:2], daemon.asked))
-        check("the daemon is told whose it is, and nothing else", fields.get("x-real-ip") == f"127.9.76.{n + 1}" and set(fields) <= {"host", "x-real-ip", "connection"}, fields)
-    daemon.asked.clear()
-    for site_, dest, status in (("cross-site", "image", 403), ("cross-site", "iframe", 403), ("same-site", "empty", 403), ("cross-site", "", 403), ("cross-site", "document", 302), ("same-origin", "empty", 302), ("none", "document", 302)):
-        got = edge.ask("GET", "/watch?from=1&to=2", {"Sec-Fetch-Site": site_, **({"Sec-Fetch-Dest": dest} if dest else {})}, here="127.9.77.1")
-        check(f"/watch for {site_} {dest}", got[0] == status, got[:2])
-        time.sleep(0.2)
-    for method, more, statuses in (("PUT", "Content-Length: 1000000\r\n\r\n" + "a" * 1000000, {405, 413}), ("POST", "Content-Length: 0\r\n", {405}), ("GET", "Content-Length: 1000000\r\n\r\n", {413})):
-        status = edge.raw("/watch?from=1&to=2", more, here="127.9.77.2", method=method)[0]
-        check(f"{method} /watch with {more[:23].strip()}", status in statuses, status)
-    check("which came to the daemon thrice", len(daemon.asked) == 3, daemon.asked)
-    statuses, _ = flood(edge, [request("/watch?from=1&to=2")] * 60 + [request("/hls/0.m3u8")] * 20 + [request("/watch.html", last=True)], "127.9.77.3")
-    check("sixty programmes at once are too many, and keep no list away", 20 <= statuses[:60].count(302) <= 25 and statuses[:60].count(429) >= 35 and statuses[60:] == [200] * 21, statuses)
-    daemon.server.shutdown()
-    daemon.server.server_close()
-
-
-def shares(_, folder):
-    """Viewers' places when all are taken: nobody has many while others have none."""
-    folder = os.path.join(folder, "shares")
-    os.makedirs(folder)
-    news = Watchers("news")
-    channels, log = os.path.join(folder, "channels"), os.path.join(folder, "log")
-    write(channels, f"news http://127.0.0.1:{news.false.port}/news/origin/1\n")
-    write(log, "")
-    daemon = Daemon(folder, None, channels=channels, log=log)
-    try:
-        status = [daemon.watch(n * 1000000, (n + 5) * 1000000, f"2001:db8:{n // 8}:{n}::1")[0] for n in range(48)]
-        check("six networks take all 48 places", status == [302] * 48, status)
-        # some by a socket for both protocols
-        status = [daemon.watch(500000000 + n * 1000000, 505000000 + n * 1000000, f"{'' if n < 2 else '::ffff:'}192.0.2.{n + 1}")[0] for n in range(12)]
-        check("others get theirs all the same", status == [302] * 12 and len(news.standing) == 48, (status, len(news.standing)))
-        status = [daemon.watch(600000000 + n * 1000000, 605000000 + n * 1000000, "192.0.2.1")[0] for n in range(8)]
-        check("up to an even share, of which nobody takes from another", 302 in status and status[-1] == 503 and len(news.standing) == 48, status)
-        status = daemon.watch(1000000 * 700, 1000000 * 705, "2001:db8:0:ffff::1")[0]
-        check("a network of IPv6 is its first 48 bits", status == 503, status)
-        paths = [(name, os.stat(os.path.join(daemon.state, name)).st_mode & 0o777) for name in sorted(os.listdir(daemon.state))]
-        with open(os.path.join(daemon.state, "news.json"), encoding="utf-8") as file:
-            text = file.read()
-        check("nobody else reads viewers' addresses and tokens, and hls_reap the jobs", paths == [("news.json", 0o644), ("news.programmes.json", 0o600)] and
-              {one["job"] for one in json.loads(text)["jobs"]} == news.standing and "192.0.2" not in text and "token" not in text, (paths, text[:200]))
-    finally:
-        daemon.stop()
-
-
-def popular(_, folder):
-    """A programme's place counts for all who use it: nobody takes one from its many viewers, and who shares many has them all the same."""
-    folder = os.path.join(folder, "popular")
-    os.makedirs(folder)
-    news = Watchers("news")
-    channels, log = os.path.join(folder, "channels"), os.path.join(folder, "log")
-    write(channels, f"news http://127.0.0.1:{news.false.port}/news/origin/1\n")
-    write(log, "")
-    daemon = Daemon(folder, None, channels=channels, log=log)
-
-    def watched(paths, addresses):
-        with open(log, "a", encoding="utf-8") as file:
-            file.writelines(json.dumps({"path": path, "status": 200, "client": address}) + "\n" for path in paths for address in addresses)
-        time.sleep(1.2)
-
-    def new(first, address, count):
-        return [daemon.watch((first + n) * 1000000, (first + n + 5) * 1000000, address.format(n + 1))[0] for n in range(count)]
-    try:
-        eight = [daemon.watch(n * 1000000, (n + 5) * 1000000, "192.0.2.1")[1] for n in range(8)]
-        check("others have the other places", new(100, "198.51.100.{}", 40) == [302] * 40)
-        watched(eight, [f"10.0.{n}.1" for n in range(20)])
-        popular_jobs = {int(path.split("/")[4]) for path in eight}
-        status = new(200, "203.0.113.{}", 20)
-        check("strangers take no programme that twenty others watch", popular_jobs <= news.standing and set(status) <= {302, 503}, (len(popular_jobs & news.standing), status))
-    finally:
-        daemon.stop()
-    news = Watchers("news")
-    write(channels, f"news http://127.0.0.1:{news.false.port}/news/origin/1\n")
-    write(log, "")
-    for name in os.listdir(daemon.state):
-        os.remove(os.path.join(daemon.state, name))
-    daemon.start()
-    try:
-        own = [daemon.watch(n * 1000000, (n + 5) * 1000000, f"192.0.2.{n // 8 + 1}")[1] for n in range(48)]
-        watched(own, [f"192.0.2.{n + 1}" for n in range(6)])
-        status = new(100, "203.0.113.{}", 12)
-        check("six who use each other's 48 programmes leave others theirs", status == [302] * 12, status)
-    finally:
-        daemon.stop()
-
-
-class Told:
-    """In place of an origin: its jobs are there, and are deleted."""
-
-    def __init__(self):
-        self.deleted = 0
-
-    async def ask(self, method, _):
-        self.deleted += method == "DELETE"
-        return (204, {}, "") if method == "DELETE" else (200, {}, "cut 0 version 1")
-
-
-def ages(_, folder):
-    """A clock that is set changes no programme's age: neither does a job outlast --oldest, nor is one that is watched deleted."""
-    folder = os.path.join(folder, "ages")
-    os.makedirs(folder)
-    for steps, deleted in (((1800, -1500), (1801, 0)), 1), (((60, 86400), (60, 0)), 0), (((60, -86400), (60, 86400)), 0):
-        catchupd, now = tool("hls_catchupd"), {"time": 1e9, "monotonic": 1e5}
-        catchupd.time = types.SimpleNamespace(time=lambda: now["time"], monotonic=lambda: now["monotonic"])
-        origin = Told()
-
-        async def passes():
-            channel = catchupd.Channel("news", origin, types.SimpleNamespace(state=folder, unused=1e9, oldest=3600, secret="s"))
-            channel.programmes[("0", "1")] = catchupd.Programme(("0", "1"), 7, "192.0.2.1", "cut 0 version 1", "/job/Run1/1/7/ttttttttttttttttttttt7/master.m3u8")
-            for seconds, step in steps:
-                now["monotonic"] += seconds
-                now["time"] += seconds + step
-                await channel.tidy()
-        asyncio.run(passes())
-        check(f"a programme of an hour at most, with a clock by steps of {steps}", origin.deleted == deleted, origin.deleted)
-        for name in os.listdir(folder):
-            os.remove(os.path.join(folder, name))
-
-
-class Refusing:
-    """In place of an origin that takes its time, and can cut the programme of the first second alone."""
-
-    prefix, number = "", "1"
-
-    async def ask(self, method, path):
-        await asyncio.sleep(0.02)
-        if method == "POST":
-            return (202, {}, "job 7 version 1") if "from=0&" in path else (400, {}, "refused NoCut")
-        return (200, {}, {"/status": "jobs 0", "/hls/run": "Run1"}.get(path, "cut 0 version 1"))
-
-
-def queue(_, folder):
-    """New programmes are made one at a time: a client that asks for many that can't be cut doesn't delay the others."""
-    folder, catchupd = os.path.join(folder, "queue"), tool("hls_catchupd")
-    os.makedirs(folder)
-
-    async def asked():
-        channel = catchupd.Channel("news", Refusing(), types.SimpleNamespace(state=folder, unused=600, oldest=3600, jobs=48, each=8, secret="s"))
-        strangers = [asyncio.create_task(channel.give((str(1000 + n), str(2000 + n)), f"192.0.2.{n % 64}")) for n in range(512)]
-        await asyncio.sleep(0.1)
-        begun = time.monotonic()
-        path = await channel.give(("0", "1"), "198.51.100.1")
-        took = time.monotonic() - begun
-        for one in strangers:
-            one.cancel()
-        await asyncio.gather(*strangers, return_exceptions=True)
-        return path, took
-    path, took = asyncio.run(asked())
-    check("a viewer's programme is made beside 512 of 64 strangers", path.startswith("/job/Run1/1/7/") and took < 12, (path, took))
-
-
-def odd_states(_, folder):
-    """State files whose values are of other types: the daemon starts and continues without those jobs."""
-    folder = os.path.join(folder, "odd")
-    os.makedirs(folder)
-    news = Watchers("news")
-    channels, log = os.path.join(folder, "channels"), os.path.join(folder, "log")
-    write(channels, f"news http://127.0.0.1:{news.false.port}/news/origin/1\n")
-    write(log, "")
-    good = {"key": ["0", "1"], "job": 7, "who": "192.0.2.1", "line": "cut 0 version 1", "path": "/job/Run1/1/7/ttttttttttttttttttttt7/master.m3u8", "used": 1, "made": 1}
-    odd = [json.dumps({"jobs": [{**good, **change}]}) for change in (
-        {"used": "x"}, {"made": []}, {"job": 1e999}, {"job": "x"}, {"path": 5}, {"key": 5}, {"key": [[]]}, {"who": []}, {"line": {}}, {"used": -1e999, "made": float("nan")})]
-    for n, text in enumerate([*odd, "[" * 200000, '{"jobs":5}', "5"]):
-        write(os.path.join(folder, "catchupd", "news.programmes.json"), text)
-        daemon = Daemon(folder, None, channels=channels, log=log)
-        time.sleep(1.2)
-        status = daemon.watch(1000000 * n, 1000000 * (n + 5))[0] if daemon.process.poll() is None else None
-        check(f"a state of {text[:120]}", status == 302 and daemon.process.poll() is None, status)
-        daemon.stop()
-
-
-def authority(site, folder):
-    """hls_catchupd asks an edge whose certificate the system doesn't know."""
-    folder = os.path.join(folder, "authority")
-    os.makedirs(folder)
-    channels, log = os.path.join(folder, "channels"), os.path.join(folder, "log")
-    write(channels, f"sport https://{OPERATOR[0]}:{OPERATOR[1].replace(' ', '%20')}@localhost:{site.edge.port}/sport/origin/1\n")
-    write(log, "")
-    for words, status in (((), 503), (("--ca", site.edge.certificate), 302)):
-        daemon = Daemon(folder, site.edge, *words, channels=channels, log=log)
-        begins = just_aired(site.edge, "/sport")
-        got = daemon.watch(begins * 1000000, (begins + 6) * 1000000, channel="sport")
-        daemon.stop()
-        check(f"hls_catchupd with {words[:1]}", got[0] == status, got)
-    for path in ("/nowhere", log):
-        done = subprocess.run([os.path.join(ROOT, "deploy", "hls_catchupd"), "--channels", channels, "--state", folder, "--secret", os.path.join(site.edge.files, "secret"), "--ca", path], capture_output=True, text=True, timeout=20)
-        check(f"--ca {path}", done.returncode == 2 and "--ca" in done.stderr and "Traceback" not in done.stderr, (done.returncode, done.stderr))
 
 
 # Replies
@@ -677,4 +401,4 @@ def connections(site):
     check("one address opens 300 at once and 100 a second, however soon it closes them", done.stdout.split()[8:] == ["True", "20"] * 2, (done.stdout, done.stderr))
 
 
-GROUPS = (log_is_bounded, refused_quietly, doors, job_segments, replies, both_protocols, connections)
+GROUPS = (log_is_bounded, refused_quietly, doors, made_up_segments, replies, both_protocols, connections)

@@ -10,8 +10,25 @@ import tempfile
 import threading
 import time
 
-# What is waited for may take so many times longer, on a machine that has much else to do.
-SLACK = float(os.environ.get("SLACK", "1"))
+from harness import SLACK
+
+# Before a page's own script: it notes four times a second where its video is.
+NOTE_TIMES = """window.times = []; setInterval(() => {
+    const video = document.querySelector("video");
+    if (video) window.times.push([performance.now() / 1000, video.currentTime, video.error ? video.error.message || String(video.error.code) : ""]);
+}, 250);"""
+# .. and that the page has no Media Source, so that the browser's own player plays
+NO_MEDIA_SOURCE = "delete window.MediaSource; delete window.ManagedMediaSource;"
+
+
+def longest_stall(times):
+    """The longest time, in seconds, that a video stood still, once it had begun."""
+    longest, moved, at = 0, None, 0
+    for now, time_of_video, _ in times:
+        if time_of_video != at:
+            longest = max(longest, now - moved if moved else 0)
+            moved, at = now, time_of_video
+    return max(longest, times[-1][0] - moved) if moved else float("inf")
 
 
 class Browser:
@@ -31,7 +48,7 @@ class Browser:
             ["chromium", "--headless=new", "--no-sandbox", "--disable-gpu", "--ignore-certificate-errors", "--disable-dev-shm-usage", "--mute-audio",
              "--autoplay-policy=no-user-gesture-required", "--disable-background-networking", "--no-first-run", "--force-color-profile=srgb",
              "--js-flags=--expose-gc", f"--user-data-dir={self.profile.name}", "--remote-debugging-pipe", *more],
-            stdin=subprocess.DEVNULL, stdout=subprocess.DEVNULL, stderr=subprocess.DEVNULL, preexec_fn=hand_over, pass_fds=(3, 4, reads, writes), start_new_session=True)
+            stdin=subprocess.DEVNULL, stdout=subprocess.DEVNULL, stderr=subprocess.DEVNULL, preexec_fn=hand_over, close_fds=False, start_new_session=True)
         os.close(reads)
         os.close(writes)
         self.number, self.answers, self.pages, self.lock = 0, {}, {}, threading.Condition()

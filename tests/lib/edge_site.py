@@ -71,7 +71,7 @@ class Edge:
         install()
         self.folder, self.process = os.path.join(folder, "edge"), None
         self.files = os.path.join(self.folder, "hls_origin")
-        self.port, self.open, self.plain, self.inner, self.catchup = (free_port() for _ in range(5))
+        self.port, self.open, self.plain, self.inner = (free_port() for _ in range(4))
         for name in ("conf.d", "sites-enabled", "snippets", "cache", "hls_origin", "pages"):
             os.makedirs(os.path.join(self.folder, name))
         for path in (folder, self.folder):
@@ -86,10 +86,10 @@ class Edge:
             ("listen 80;", f"listen 127.0.0.1:{self.plain};"), ("listen [::]:80;", f"listen [::1]:{self.plain};"),
             # without TLS too, for players that don't take a certificate of today
             ("listen 443 ", f"listen 127.0.0.1:{self.open};\n    listen 127.0.0.1:{self.port} "), ("listen [::]:443 ", f"listen [::1]:{self.port} "),
-            ("edge.example.org;", "localhost 127.0.0.1 \"\";"), ("#include snippets/hls_catchup.conf;", "include snippets/hls_catchup.conf;"), ("/var/www/acme", f"{self.folder}/acme"),
+            ("edge.example.org;", "localhost 127.0.0.1 \"\";"), ("/var/www/acme", f"{self.folder}/acme"),
             ("/etc/nginx/edge.crt", self.certificate), ("/etc/nginx/edge.key", f"{self.folder}/edge.key"), *site_changes])
         for name in os.listdir(os.path.join(ROOT, "edge")):
-            if re.fullmatch(r"hls_(server|fields|viewers|operators|pages|catchup)\.conf", name):
+            if re.fullmatch(r"hls_(server|fields|viewers|operators|pages)\.conf", name):
                 self.copy("snippets", name)
         write(os.path.join(self.folder, "sites-enabled", "other"), more)
         self.conf = os.path.join(self.folder, "nginx.conf")
@@ -112,7 +112,7 @@ class Edge:
             text = text.replace(old, new)
         for old, new in [("/etc/nginx/hls_origin", self.files), ("/usr/share/hls_origin/edge", os.path.join(ROOT, "edge")),
                          ("/usr/share/hls_origin/pages", os.path.join(self.folder, "pages")), ("/var/lib/nginx", f"{self.folder}/cache"),
-                         ("/var/log/nginx", self.folder), ("127.0.0.1:8079", f"127.0.0.1:{self.inner}"), ("127.0.0.1:8078", f"127.0.0.1:{self.catchup}")]:
+                         ("/var/log/nginx", self.folder), ("127.0.0.1:8079", f"127.0.0.1:{self.inner}")]:
             text = text.replace(old, new)
         write(os.path.join(self.folder, to, name), text)
 
@@ -158,7 +158,7 @@ class Edge:
                 write(os.path.join(self.files, door, f"{name}.htpasswd"), f"{user}:{hashed(password)}\n")
 
     def start(self):
-        self.process = subprocess.Popen([*self.words, "-g", "daemon off;"], stdin=subprocess.DEVNULL, stderr=subprocess.DEVNULL)
+        self.process = harness.run(*self.words, "-g", "daemon off;", stdin=subprocess.DEVNULL, stderr=subprocess.DEVNULL)
         wait_for(self.port)
 
     def lines(self, name):

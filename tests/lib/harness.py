@@ -1,17 +1,22 @@
 """What every run through sockets needs: counted checks, processes that end with the run, requests, live lists, and ffmpeg's options."""
+import atexit
 import http.client
 import os
 import random
 import shutil
+import signal
 import socket
 import subprocess
+import sys
 import time
 
 ROOT = os.path.dirname(os.path.dirname(os.path.dirname(os.path.abspath(__file__))))
-PROGRAM = os.path.join(ROOT, "crates", "hls_origin", "out", "hls_origin")
+PROGRAM = os.environ.get("HLS_ORIGIN") or os.path.join(ROOT, "crates", "hls_origin", "out", "hls_origin")
 CLIP = ["-f", "lavfi", "-i", "testsrc=s=320x180:r=25", "-f", "lavfi", "-i", "sine=f=440:r=48000"]
 VIDEO = ["-map", "0:v", "-c:v", "libx264", "-preset", "ultrafast", "-g", "50", "-sc_threshold", "0"]
 AUDIO = ["-map", "1:a", "-c:a", "aac"]
+# what is waited for may take so many times longer, on a machine that has much else to do
+SLACK = float(os.environ.get("SLACK", "1"))
 
 wrong = []
 right = 0
@@ -19,9 +24,20 @@ started = []
 
 
 def end_all():
-    for process in started:
-        if process.poll() is None:
+    """Ends what still runs: nginx takes its workers with it if it is asked to."""
+    left = [process for process in started if process.poll() is None]
+    for process in left:
+        process.terminate()
+    for process in left:
+        try:
+            process.wait(2)
+        except subprocess.TimeoutExpired:
             process.kill()
+
+
+atexit.register(end_all)
+# as at its end, where it is ended
+signal.signal(signal.SIGTERM, lambda *_: sys.exit(143))
 
 
 def run(*words, **how):
@@ -65,7 +81,7 @@ def free_port():
 
 
 def ask(port, method, path, body=None, headers={}):
-    connection = http.client.HTTPConnection("127.0.0.1", port, timeout=20)
+    connection = http.client.HTTPConnection("127.0.0.1", port, timeout=20 * SLACK)
     try:
         connection.request(method, path, body, headers)
         reply = connection.getresponse()

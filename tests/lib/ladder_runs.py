@@ -10,7 +10,7 @@ from harness import ROOT, ask, check, free_port
 from origins import wait_for
 
 
-INGEST, PLACES = (os.path.join(ROOT, "deploy", name) for name in ("hls_ingest", "hls_places"))
+INGEST = os.path.join(ROOT, "deploy", "hls_ingest")
 RATES = {"25": ("25", 48, 3840000, 4), "29.97": ("30000/1001", 60, 4004000, 5), "50": ("50", 96, 3840000, 4)}
 WHITE = 5       # seconds: the sender's picture is white, and its sound a tone, in the first second of each five or so by the clock
 
@@ -27,6 +27,16 @@ def flash_and_beep(rate, ahead=0, more=""):
     inputs = [f"color=c=black:s=320x180:r={rate}{more},drawbox=c=white:t=fill:enable='lt({into},1)'"]
     inputs += [f"aevalsrc='if(lt({into},1),0.5*sin(2*PI*{hertz}*({into}+0.0003)),0)':s=48000{more}" for hertz in (880, 1320)]
     return [word for one in inputs for word in ("-f", "lavfi", "-i", one)]
+
+
+def metrics(port):
+    """Returns the metrics of an origin by their names, with the number of a rendition where they have one. The housekeeper measures once a second."""
+    for _ in range(2):
+        ask(port, "GET", "/metrics")
+        time.sleep(1.2)
+    text = ask(port, "GET", "/metrics")[1].decode()
+    rows = re.findall(r'^(\w+)(?:\{rendition="(\d+)"[^}]*\})? ([0-9e-]+)$', text, re.M)
+    return {f"{name} {number}".strip(): float(value) for name, number, value in rows}
 
 
 class Sender:
@@ -175,8 +185,8 @@ def looked_at(name, ladder, marks, since=0.0, flashes=True):
     for rendition in range(1, 5):
         other = {round(one[0], 3): one[1] for one in ladder.segments(rendition)}
         check(f"{name}: rendition {rendition} goes with it", all(any(abs(date - one[0]) < 0.023 for date in other) for one in found[:-1]), (found, other))
-    said = subprocess.run([PLACES, "--origin", f"http://127.0.0.1:{ladder.port}", ladder.conf], capture_output=True, text=True)
-    check(f"{name}: each sync sample is a place", said.returncode == 0 and re.search(r"^(\d+) of the last \1 sync", said.stdout, re.M), said.stdout + said.stderr)
+    measured = metrics(ladder.port)
+    check(f"{name}: each sync sample is a place", measured["hls_sync_samples"] > 0 and measured["hls_sync_samples_unplaced"] == 0, measured)
     if not flashes:
         return found
     shown = [one for one in found if one[0] >= since]

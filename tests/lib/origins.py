@@ -19,10 +19,10 @@ def need(**packages):
 
 
 def end():
-    """Says how many checks were right, and ends."""
+    """Says how many checks were right, and ends: with status 1 if one was wrong, or none was made."""
     right, wrong = harness.right, harness.wrong
     print(f"{right} of {right + len(wrong)} right")
-    sys.exit(1 if wrong else 0)
+    sys.exit(1 if wrong or not right else 0)
 
 
 # Generated streams: a track of one kind, units of one sample each.
@@ -73,7 +73,7 @@ class Origin:
         self.start()
 
     def start(self):
-        self.process = subprocess.Popen(self.words, stderr=open(self.log, "a"), stdin=subprocess.DEVNULL, env=self.environment)
+        self.process = harness.run(*self.words, stderr=open(self.log, "a"), stdin=subprocess.DEVNULL, env=self.environment)
         wait_for(self.port)
 
     def kill(self):
@@ -108,11 +108,12 @@ def part(values, share):
 # Real encoders and a real browser
 
 def push_real(port, seconds, size="320x180", more=(), paths=("/ingest/0", "/ingest/1"), url=None):
-    """ffmpeg in real time: a video in groups of two seconds and an audio, each by its own PUT."""
+    """ffmpeg in real time: videos in groups of two seconds, and an audio, which has the last path; each by its own PUT."""
     url = url or f"http://127.0.0.1:{port}"
     clip = ["-re", "-f", "lavfi", "-i", f"testsrc=s={size}:r=25", "-re", "-f", "lavfi", "-i", "sine=f=440:r=48000"]
     pushed = []
-    for kind, flags, path in [(harness.VIDEO, "+cmaf+frag_keyframe+skip_trailer", paths[0]), (harness.AUDIO, "+cmaf+skip_trailer", paths[1])]:
+    videos = [(harness.VIDEO, "+cmaf+frag_keyframe+skip_trailer", path) for path in paths[:-1]]
+    for kind, flags, path in [*videos, (harness.AUDIO, "+cmaf+skip_trailer", paths[-1])]:
         pushed.append(subprocess.Popen(
             ["ffmpeg", "-v", "error", *clip, *kind, "-t", str(seconds), *more, "-f", "mp4", "-movflags", flags,
              *(["-frag_duration", "200000"] if kind is harness.AUDIO else []), "-method", "PUT", url + path],

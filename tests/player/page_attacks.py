@@ -1,10 +1,7 @@
 """Attacks on the pages that need no origin: lists, media and certificates that are made to hurt, renditions of which one stalls, a
 clock that is off, small windows and the keyboard alone. No script of its own: tests/player/pages runs `hostile` and `small`.
 """
-import json
 import os
-import re
-import struct
 import time
 
 from harness import check
