@@ -145,7 +145,7 @@ impl ConnectionMemory {
 /// it `wants_write`. After its `end` only the waiting bytes are still to be sent.
 ///
 /// It borrows the keeper of its channel at each `advance`; the same keeper may serve others between. While it is idle it holds no
-/// memory but its own 32 bytes, and nothing of what it sent.
+/// memory but its own 48 bytes, and nothing of what it sent.
 #[derive(Drop)]
 pub struct Connection {
     alloc: Global,
