@@ -4,7 +4,9 @@ import glob
 import ipaddress
 import os
 import re
+import socket
 import subprocess
+import tempfile
 import urllib.parse
 from collections.abc import Callable
 from typing import NamedTuple
@@ -73,18 +75,43 @@ def journal_of(values: dict[str, str], name: str) -> str | None:
     return folder or None
 
 
-def need_of(values: dict[str, str]) -> Need:
-    """Asks the program what a channel needs; it names a wrong argument of serve."""
-    words = [*values.get("OPTIONS", "").split(), values.get("ADDRESS", ""), *values.get("RENDITIONS", "").split()]
+def said_by(command: str, arguments: list[str]) -> str:
+    """Returns what a command of the program prints about arguments of serve; it names a wrong one."""
     try:
-        done = subprocess.run([PROGRAM, "size", *words], stdin=subprocess.DEVNULL, capture_output=True, text=True, errors="replace", timeout=20)
+        done = subprocess.run([PROGRAM, command, *arguments], stdin=subprocess.DEVNULL, capture_output=True, text=True, errors="replace", timeout=20)
     except (OSError, subprocess.TimeoutExpired) as fault:
         raise Wrong(f"{PROGRAM} can't be run: {fault}") from fault
-    found = dict(re.findall(r"^(LimitAS|MemoryMax)=(\d+[KMGT]?)$", done.stdout, re.M))
-    if done.returncode or len(found) != 2:
-        line = done.stderr.strip().split("\n")[0] or f"{PROGRAM} size ends with status {done.returncode}"
+    if done.returncode == 2 or done.returncode and command == "size":
+        line = done.stderr.strip().split("\n")[0] or f"{PROGRAM} {command} ends with status {done.returncode}"
         raise Wrong("OPTIONS, ADDRESS or RENDITIONS: " + re.sub(r"^\w+: ", "", line))
+    return done.stdout
+
+
+def need_of(values: dict[str, str]) -> Need:
+    """Asks the program what a channel needs."""
+    text = said_by("size", [*values.get("OPTIONS", "").split(), values.get("ADDRESS", ""), *values.get("RENDITIONS", "").split()])
+    found = dict(re.findall(r"^(LimitAS|MemoryMax)=(\d+[KMGT]?)$", text, re.M))
+    if len(found) != 2:
+        raise Wrong(f"{PROGRAM} size doesn't name the limits of a service")
     return Need(found["LimitAS"], found["MemoryMax"])
+
+
+def check_start(values: dict[str, str]) -> None:
+    """Has the program start with a channel's options, at an address that no machine has and with a journal of its own, so that it ends."""
+    options = values.get("OPTIONS", "").split()
+    with tempfile.TemporaryDirectory() as folder:
+        elsewhere = [os.path.join(folder, "channel") if before == "--journal" and word else word for before, word in zip(["", *options], options)]
+        said_by("serve", [*elsewhere, "203.0.113.1:9", *values.get("RENDITIONS", "").split()])
+
+
+def check_address(values: dict[str, str]) -> None:
+    """Tests that the address is this machine's."""
+    host = values.get("ADDRESS", "").rpartition(":")[0]
+    try:
+        with socket.socket() as one:
+            one.bind((host, 0))
+    except OSError:
+        raise Wrong(f"ADDRESS: {host} is no address of this machine") from None
 
 
 def others(path: str, folder: str) -> dict[str, dict[str, str]]:
@@ -113,8 +140,9 @@ def collisions(values: dict[str, str], other: dict[str, str]) -> list[str]:
     return found + [f"EDGE: {one}" for one in sorted(both)]
 
 
-def faults_of(path: str, folder: str = FOLDER, channels: str | None = None) -> list[str]:
-    """Returns what is wrong in a channel's file, a line for each fault. `channels` is the edge's file of channels."""
+def faults_of(path: str, folder: str = FOLDER, channels: str | None = None, is_served_here: bool = False) -> list[str]:
+    """Returns what is wrong in a channel's file, a line for each fault. `channels` is the edge's file of channels. Of a channel that isn't
+    served here, hls_metrics has a copy of the file."""
     try:
         values = read_values(path)
     except Wrong as fault:
@@ -125,7 +153,9 @@ def faults_of(path: str, folder: str = FOLDER, channels: str | None = None) -> l
             close = difflib.get_close_matches(key.upper(), KEYS, 1)
             found.append(f"{key} is no key of a channel" + (f": {close[0]}?" if close else f"; the keys are {' '.join(KEYS)}"))
     found += [f"{key} is missing" for key in ("ADDRESS", "RENDITIONS") if not values.get(key)]
-    checks: list[Callable[[dict[str, str]], object]] = [] if found else [need_of, places_of, origins_at_edge, senders_of, lambda values: journal_of(values, name_of(path))]
+    checks: list[Callable[[dict[str, str]], object]] = [] if found else [need_of, check_start, places_of, origins_at_edge, senders_of, lambda values: journal_of(values, name_of(path))]
+    if is_served_here and checks:
+        checks.append(check_address)
     if values.get("INPUT") and checks:
         checks.append(lambda values: Ladder(values, path))
     for check in checks:

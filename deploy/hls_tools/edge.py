@@ -11,6 +11,7 @@ from typing import IO, TypedDict
 from .channels import NAME, Wrong
 
 FOLDER = "/etc/nginx/hls_origin"
+LOCK = "/run/hls_edge.lock"
 HOST = r"[a-z0-9]([a-z0-9-]*[a-z0-9])?(\.[a-z0-9]([a-z0-9-]*[a-z0-9])?)*"
 RUN = "[A-Za-z0-9]{1,16}"
 # First words of the edge's own paths: a channel at one of these would hide them.
@@ -145,9 +146,9 @@ def generated(channels: Mapping[str, Channel], users: Mapping[str, list[str]]) -
     ]) + "\n"
 
 
-def locked(folder: str) -> IO[str]:
-    """The file by which those who change a folder wait for each other: root's alone, since who may open it may hold it."""
-    lock = open(os.open(os.path.join(folder, ".lock"), os.O_WRONLY | os.O_CREAT, 0o600), "w", encoding="utf-8")
+def locked() -> IO[str]:
+    """The file by which those who change the edge wait for each other: root's alone, since who may open it may hold it."""
+    lock = open(os.open(LOCK, os.O_WRONLY | os.O_CREAT, 0o600), "w", encoding="utf-8")
     fcntl.flock(lock, fcntl.LOCK_EX)
     return lock
 

@@ -110,16 +110,15 @@ class Edge:
             if old not in text:
                 raise SystemExit(f"edge/{name} has no {old}")
             text = text.replace(old, new)
-        for old, new in [("/etc/nginx/hls_origin", self.files), ("/usr/share/hls_origin/edge", os.path.join(ROOT, "edge")),
-                         ("/usr/share/hls_origin/pages", os.path.join(self.folder, "pages")), ("/var/lib/nginx", f"{self.folder}/cache"),
+        for old, new in [("/etc/nginx/hls_origin", self.files), ("/usr/share/hls_origin/pages", os.path.join(self.folder, "pages")), ("/var/lib/nginx", f"{self.folder}/cache"),
                          ("/var/log/nginx", self.folder), ("127.0.0.1:8079", f"127.0.0.1:{self.inner}")]:
             text = text.replace(old, new)
         write(os.path.join(self.folder, to, name), text)
 
     def tool(self, name, *words):
-        """A tool of edge/ on this edge's files; where it has told nginx to reload, once nginx has done so."""
+        """A tool on this edge's files; where it has told nginx to reload, once nginx has done so."""
         before, written = self.serving(), self.written()
-        done = subprocess.run([os.path.join(ROOT, "edge", name), *words, "--folder", self.files, "--nginx", " ".join(self.words)],
+        done = subprocess.run([os.path.join(ROOT, "deploy", name), *words, "--folder", self.files, "--nginx", " ".join(self.words)],
                               capture_output=True, text=True, timeout=60)
         begun = time.monotonic()
         while done.returncode == 0 and self.written() != written and self.serving() & before and time.monotonic() - begun < 30:

@@ -114,7 +114,7 @@ class Certificates(unittest.TestCase):
 
 NEWS = ('OPTIONS="--target 4 --preferred 3840000 --epoch 1970-01-01T00:00:00Z"\nADDRESS="127.0.0.1:8080"\nRENDITIONS="v720:video:3000000:0 en:audio:128000:22000"\n'
         'SIZES="1280x720"\nRATE="25"\nGROUP="48"\nINPUT="srt://0.0.0.0:9000?mode=listener"\nEDGE="/news"\n')
-PROGRAM = '#!/bin/sh\nfor word; do [ "$word" != --wrong ] || { echo "size: unrecognized option --wrong" >&2; exit 2; }; done\nprintf "media 1\\nLimitAS=100M\\nMemoryMax=200M\\n"\n'
+PROGRAM = '#!/bin/sh\nfor word; do case $word in --wrong) ;; --late | /var/*) [ "$1" = serve ] || continue ;; *) continue ;; esac; echo "$1: unrecognized option $word" >&2; exit 2; done\nprintf "media 1\\nLimitAS=100M\\nMemoryMax=200M\\n"\n'
 
 
 class Channels(unittest.TestCase):
@@ -163,6 +163,14 @@ class Channels(unittest.TestCase):
             self.assertEqual(len(found), 1, (new, found))
             self.assertIn(said, found[0])
         self.assertIn("no channel's name", self.faults(NEWS, "News.conf")[0])
+
+    def test_start(self):
+        """What only a start finds, without the channel's own journal; and an address of another machine, of a channel that is served here."""
+        self.assertIn("unrecognized option --late", self.faults(NEWS.replace("--target 4", "--target 4 --late"))[0])
+        self.assertEqual(self.faults(NEWS.replace("--target 4", "--target 4 --journal /var/lib/hls_origin/news/channel")), [])
+        path = self.write("news.conf", NEWS.replace("127.0.0.1:8080", "192.0.2.7:8080"))
+        self.assertEqual(channel_checks.faults_of(path, self.folder), [])
+        self.assertEqual(channel_checks.faults_of(path, self.folder, is_served_here=True), ["ADDRESS: 192.0.2.7 is no address of this machine"])
 
     def test_other_channels(self):
         self.write("sport.conf", NEWS.replace("127.0.0.1:8080", "0.0.0.0:8080"))
