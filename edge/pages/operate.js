@@ -56,9 +56,10 @@ const make = (name, properties = {}, ...children) => {
 };
 
 function paintFigures() {
-    const { status, pace, renditions, table } = channel;
-    $("log").textContent = many(status.version ?? 0);
-    const days = pace > 0 ? (LOG_LIMIT - status.version) / pace / 86400 : null;
+    const { status, pace, left, renditions, table } = channel;
+    $("log").textContent = left === null ? "-" : many(LOG_LIMIT - left);
+    // a channel with a journal begins a new log long before
+    const days = pace > 0 && left !== null && left < LOG_LIMIT / 2 ? left / pace / 86400 : null;
     $("logMore").textContent = `of ${many(LOG_LIMIT)} entries${days === null ? "" : `; full in ${days < 2 ? `${(24 * days).toFixed(0)} hours` : `${days.toFixed(0)} days`}`}`;
     $("memory").textContent = renditions.some(({ kept }) => kept !== null) ? megabytes(renditions.reduce((sum, { kept }) => sum + kept, 0)) : "-";
     $("memoryMore").textContent = `of ${megabytes(renditions.reduce((sum, { total }) => sum + total, 0))} that came`;
@@ -146,6 +147,7 @@ function listenToPicture() {
         const here = lanes.timeAt(offsetX);
         lanes.chosen = [Math.max(0, Math.round(Math.min(begun, here))), Math.max(0, Math.round(Math.max(begun, here)))];
         [$("from").value, $("to").value] = lanes.chosen.map(spell);
+        showAddress();
         lanes.draw(clockOf);
     });
     // a finger that scrolls the page gives up what it began
@@ -193,7 +195,15 @@ function showTyped() {
     } catch {
         lanes.chosen = null;
     }
+    showAddress();
     paint();
+}
+
+// Where viewers get the chosen programme, with the channel's own preferred length.
+function showAddress() {
+    const list = lanes.chosen && `hls/programme/${lanes.chosen.join("/")}/master.m3u8`;
+    $("address").textContent = list ?? "";
+    $("address").href = list ? `watch.html?list=${list}` : "#";
 }
 
 function showWishes() {
@@ -340,7 +350,6 @@ function main() {
     repeat(SURVEY_EVERY, async () => {
         while (channel.live.length === 0) await sleep(1);
         await channel.survey();
-        // jobs from before this page was opened are found from the number of the job that was just made
         if (channel.status.jobs > 0) await showJobs();
         const zone = Intl.DateTimeFormat().resolvedOptions().timeZone;
         const clock = channel.epoch === null ? "In seconds of the channel's clock: serve has no --epoch." : `In this browser's time, ${zone}.`;

@@ -1,6 +1,6 @@
 // What the operators' page knows of a channel, by the origin's own routes and nothing else (docs/HTTP.md): its state, its lists,
-// the first bytes of each unit, and the table of places of a short-lived job over all that is kept. Times are microseconds of
-// the channel's clock. Nothing here is to be changed for a site.
+// the first bytes of each unit, its metrics, and the table of places in the certificate of all that is kept, by its address. Times are
+// microseconds of the channel's clock. Nothing here is to be changed for a site.
 "use strict";
 
 import { read } from "./certificate.js";
@@ -172,7 +172,7 @@ export class Channel {
     // As if nothing had been asked yet. `wished` has the programmes of the jobs that this page asked for.
     forget() {
         Object.assign(this, { renditions: [], status: {}, before: null, list: null, live: [], target: 6, epoch: null, table: null });
-        Object.assign(this, { newestJob: 0, own: null, wished: new Map() });
+        Object.assign(this, { full: null, newestJob: 0, wished: new Map() });
     }
 
     async lookAtStatus() {
@@ -226,39 +226,47 @@ export class Channel {
     get end() { return Math.max(0, ...this.renditions.map(({ newest }) => newest?.to ?? 0)); }
     get start() { return this.table?.table[0].start[0] ?? this.live[0]?.from ?? this.end; }
 
-    // All places that are kept, by the certificate of a job that is removed at once.
+    // When the log is full (by the version that it has then), and what is kept of each rendition.
+    async lookAtMetrics() {
+        const text = await textOf(`${this.base}metrics`);
+        const numberOf = (row) => Number(new RegExp(`^${row} (\\d+)$`, "m").exec(text)?.[1] ?? NaN);
+        this.full = numberOf("hls_log_entries_max") || null;
+        for (const rendition of this.renditions) {
+            const kept = numberOf(`hls_rendition_kept_bytes\\{rendition="${rendition.number}",[^}]*\\}`);
+            rendition.kept = Number.isNaN(kept) ? null : kept;
+        }
+    }
+
+    // The log's entries that are left; a new log counts on from the one before.
+    get left() { return this.full === null ? null : this.full - this.status.version; }
+
+    // All places that are kept.
     async survey() {
+        await this.lookAtMetrics();
         const last = this.live[this.live.length - 1];
         if (!last) return;
         const to = last.from + last.length;
+        // a job's number leads to those before it
+        if (this.status.jobs > 0 && this.newestJob === 0) await this.remove(await this.cut({ from: last.from, to }));
         const kept = await this.renditions[0].firstKept();
         const newest = Math.max(...this.renditions.map(({ units: [first] }) => first?.from ?? 0));
         // what is kept begins with a place once something was trimmed; before that, a little later
         const later = kept === null ? null : kept + this.target * 1000000;
         const starts = [kept, later, newest, this.live[0].from].filter((time) => time !== null && time < to);
         for (let i = 0; i < starts.length; i++) {
-            const { state, certificate } = await this.tableFrom(starts[i], to);
+            const { refusal, certificate } = await this.tableFrom(starts[i], to);
             if (certificate) this.table = certificate;
             if (certificate) return;
             // more places than a table holds: the later half of them
-            if (state.includes("ProgrammeTooLong")) starts.splice(i + 1, 0, Math.floor((starts[i] + to) / 2));
+            if (refusal?.includes("ProgrammeTooLong")) starts.splice(i + 1, 0, Math.floor((starts[i] + to) / 2));
         }
     }
 
+    // The certificate of a programme, or the refusal in the origin's words.
     async tableFrom(from, to) {
-        const job = this.own = await this.cut({ from, to });
-        try {
-            const state = await this.finished(job);
-            if (!/^(cut|none)/.test(state)) return { state, certificate: null };
-            if (state.startsWith("cut")) for (const rendition of this.renditions) rendition.kept = await this.lengthOf(job, rendition);
-            return { state, certificate: read(new TextEncoder().encode(await textOf(`${this.base}job/${job}/certificate.txt`, 67108864))) };
-        } finally {
-            await this.remove(job);
-        }
-    }
-
-    async lengthOf(job, { number }) {
-        return Number((await asked(`${this.base}job/${job}/${number}.mp4`, { method: "HEAD" })).headers.get("Content-Length"));
+        const reply = await asked(`${this.base}hls/programme/${from}/${to}/certificate.txt`);
+        const bytes = await wholeOf(reply, 67108864);
+        return reply.status === 200 ? { certificate: read(bytes) } : { refusal: new TextDecoder().decode(bytes), certificate: null };
     }
 
     // Asks for a catch-up recording; its number.
@@ -292,7 +300,7 @@ export class Channel {
     async jobs() {
         const found = [];
         const look = async (number) => {
-            const job = number === this.own ? null : await this.job(number);
+            const job = await this.job(number);
             if (job) found.push(job);
             return job !== null;
         };

@@ -138,7 +138,7 @@ def series(site):
     """On a site of a hundred channels, each of which sees what `news` has seen here, the first fault of another channel is counted."""
     metrics, path = tool("hls_metrics"), os.path.join(site.edge.folder, "many.log")
     write(path, "")
-    edge = metrics.Edge(types.SimpleNamespace(edge_status=None, edge_folder=None, edge_certificate=[], edge_disk=[], edge_log=path, edge_failovers=None))
+    edge = metrics.Edge(types.SimpleNamespace(edge_status=None, edge_folder=None, edge_certificate=[], edge_disk=[], edge_log=path))
     seen = {(line["kind"], line["status"], line["cache"]) for line in map(json.loads, site.edge.lines("hls_origin.log")) if line["channel"] == "news"}
     lines = [{"channel": f"channel{n}", "kind": kind, "status": status, "cache": cache, "bytes": 1, "seconds": 0.1} for n in range(100) for kind, status, cache in sorted(seen)]
     write(path, "".join(json.dumps(line) + "\n" for line in [*lines, {"channel": "late", "kind": "segment", "status": 502, "cache": "MISS"}]))

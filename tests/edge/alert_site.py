@@ -163,10 +163,10 @@ class Site:
     def watch(self):
         """hls_metrics on all of it."""
         edge = self.edge and ["--edge-status", f"http://127.0.0.1:{self.edge.inner}/stub_status", "--edge-log", os.path.join(self.edge.folder, "hls_origin.log"),
-                              "--edge-failovers", os.path.join(self.edge.folder, "hls_origin_failover.log"), "--edge-folder", self.edge.files,
+                              "--edge-folder", self.edge.files,
                               "--edge-certificate", f"127.0.0.1:{self.edge.port}", "--edge-disk", os.path.join(self.edge.folder, "cache"), "--edge-disk", self.edge.folder]
         units = ["--units"] if os.listdir(self.commands) else []
-        tool = harness.run(os.path.join(ROOT, "deploy", "hls_metrics"), "--words", self.words, "--listen", f"127.0.0.1:{self.metrics_port}", "--cgroups", os.path.join(self.folder, "none"),
+        tool = harness.run(os.path.join(ROOT, "deploy", "hls_metrics"), "--words", self.words, "--listen", f"127.0.0.1:{self.metrics_port}",
                             "--ingests", self.ingests, *units, *(edge or []), stdin=subprocess.DEVNULL,
                             stderr=open(os.path.join(self.folder, "metrics.log"), "a", encoding="utf-8"), env={**os.environ, "PATH": self.commands + ":" + os.environ["PATH"]})
         wait_for(self.metrics_port)
