@@ -8,6 +8,7 @@ import json
 import os
 import re
 import signal
+import socket
 import subprocess
 import threading
 import time
@@ -18,6 +19,10 @@ import harness
 from edge_site import OPERATOR, Edge
 from harness import ROOT, check, free_port
 from origins import Origin, init_section, unit, wait_for
+from scripts import use_tools
+
+use_tools()
+from hls_tools.ingests import Status  # noqa: E402
 
 RULES = os.path.join(ROOT, "deploy", "prometheus", "hls_rules.yml")
 # as the service has it, so that what is freed goes back to the system
@@ -106,26 +111,44 @@ class Channel:
 # Who watches
 
 class Reports(threading.Thread):
-    """What an hls_ingest writes of itself, each second, without one: it can be silent, and count."""
+    """What an hls_ingest says of itself, each second, without one: it can count."""
 
     def __init__(self, site, name, stop=None):
         super().__init__(daemon=True)
-        self.path, self.silent, self.a_second, self.stop = os.path.join(site.ingests, name, "state.json"), False, 0, stop or site.stop
-        self.found = {"input": "up", "since": int(time.time()), "written": 0, "pictures_left_out": 0, "encoder_restarts": 0}
-        os.makedirs(os.path.dirname(self.path))
+        self.site, self.name, self.a_second, self.stop = site, name, 0, stop or site.stop
+        self.status = Status(True, int(time.time()))
+        self.say()
         self.start()
+
+    def say(self):
+        self.site.systemd({"Id": "hls_metrics.service", "ActiveState": "active"}, {"Id": f"hls_ingest@{self.name}.service", "ActiveState": "active", "StatusText": self.status})
 
     def run(self):
         while not self.stop.wait(1):
-            self.found = {**self.found, "written": int(time.time()), "pictures_left_out": self.found["pictures_left_out"] + self.a_second}
-            if self.silent:
-                continue
+            self.status.pictures_left_out += self.a_second
             try:
-                with open(self.path + ".new", "w", encoding="ascii") as file:
-                    json.dump(self.found, file)
-                os.replace(self.path + ".new", self.path)
+                self.say()
             except FileNotFoundError:
                 return              # the site's folder is gone: all is over
+
+
+class Notified(threading.Thread):
+    """systemd's socket for an hls_ingest, whose status systemctl then shows."""
+
+    def __init__(self, site, name):
+        super().__init__(daemon=True)
+        self.site, self.name, self.said = site, name, ""
+        self.path = os.path.join(site.folder, f"{name}.notify")
+        self.socket = socket.socket(socket.AF_UNIX, socket.SOCK_DGRAM)
+        self.socket.bind(self.path)
+        self.start()
+
+    def run(self):
+        while True:
+            text = self.socket.recv(4096).decode()
+            if text.startswith("STATUS="):
+                self.said = text.removeprefix("STATUS=")
+                self.site.systemd({"Id": "hls_metrics.service", "ActiveState": "active"}, {"Id": f"hls_ingest@{self.name}.service", "ActiveState": "active", "StatusText": self.said})
 
 
 class Site:
@@ -133,8 +156,8 @@ class Site:
 
     def __init__(self, program, folder):
         self.program, self.folder, self.words = program, folder, os.path.join(folder, "words")
-        self.ingests, self.commands = (os.path.join(folder, name) for name in ("ingests", "commands"))
-        for path in (self.words, self.ingests, self.commands):
+        self.commands = os.path.join(folder, "commands")
+        for path in (self.words, self.commands):
             os.makedirs(path)
         self.metrics_port, self.edge, self.stop = free_port(), None, threading.Event()
 
@@ -167,7 +190,7 @@ class Site:
                               "--edge-certificate", f"127.0.0.1:{self.edge.port}", "--edge-disk", os.path.join(self.edge.folder, "cache"), "--edge-disk", self.edge.folder]
         units = ["--units"] if os.listdir(self.commands) else []
         tool = harness.run(os.path.join(ROOT, "deploy", "hls_metrics"), "--words", self.words, "--listen", f"127.0.0.1:{self.metrics_port}",
-                            "--ingests", self.ingests, *units, *(edge or []), stdin=subprocess.DEVNULL,
+                            *units, *(edge or []), stdin=subprocess.DEVNULL,
                             stderr=open(os.path.join(self.folder, "metrics.log"), "a", encoding="utf-8"), env={**os.environ, "PATH": self.commands + ":" + os.environ["PATH"]})
         wait_for(self.metrics_port)
         return tool

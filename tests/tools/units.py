@@ -13,7 +13,7 @@ import unittest
 import uuid
 
 sys.path.insert(0, os.path.join(os.path.dirname(os.path.abspath(__file__)), "..", "..", "deploy"))
-from hls_tools import certificates, channel_checks, channels, edge, journals, origins, playlists, programmes  # noqa: E402
+from hls_tools import certificates, channel_checks, channels, edge, ingests, journals, origins, playlists, programmes  # noqa: E402
 from hls_tools.boxes import boxes, count_units, init_length, units_length  # noqa: E402
 from hls_tools.failures import Failure  # noqa: E402
 
@@ -115,6 +115,15 @@ class Certificates(unittest.TestCase):
 NEWS = ('OPTIONS="--target 4 --preferred 3840000 --epoch 1970-01-01T00:00:00Z"\nADDRESS="127.0.0.1:8080"\nRENDITIONS="v720:video:3000000:0 en:audio:128000:22000"\n'
         'SIZES="1280x720"\nRATE="25"\nGROUP="48"\nINPUT="srt://0.0.0.0:9000?mode=listener"\nEDGE="/news"\n')
 PROGRAM = '#!/bin/sh\nfor word; do case $word in --wrong) ;; --late | /var/*) [ "$1" = serve ] || continue ;; *) continue ;; esac; echo "$1: unrecognized option $word" >&2; exit 2; done\nprintf "media 1\\nLimitAS=100M\\nMemoryMax=200M\\n"\n'
+
+
+class Ingests(unittest.TestCase):
+    def test_status(self):
+        for status in (ingests.Status(), ingests.Status(True, 1764320000, 7, 2)):
+            self.assertEqual(ingests.read_status(str(status)), status)
+        for text in ("", "starting", "input maybe since 1; 0 pictures left out; 0 restarts of the encoder", "input gone since -1; 0 pictures left out; 0 restarts of the encoder",
+                     "input gone since 1; 1e999 pictures left out; 0 restarts of the encoder", str(ingests.Status()) + "\n"):
+            self.assertIsNone(ingests.read_status(text))
 
 
 class Channels(unittest.TestCase):
