@@ -137,7 +137,7 @@ def generated(channels: Mapping[str, Channel], users: Mapping[str, list[str]]) -
     """The text of generated.conf."""
     stand_ins = [one for channel in channels.values() for one in channel["origins"][1:]]
     return "\n\n".join([
-        "# Written by hls_edge from `channels`, and written again by it: nothing is to be changed here.",
+        "# Written by hls_channel from `channels`, and written again by it: nothing is to be changed here.",
         *places_of(channels),
         map_of('"$hls_channel $remote_user"', "$hls_known_user", '""', [f'"{name} {user}" {user}' for name in channels for user in users[name]]),
         map_of('"$hls_channel $hls_number"', "$hls_process", '""', [f'"{name} {n}" {name}.{n}' for name, channel in channels.items() for n in range(1, len(channel["origins"]) + 1)]),
@@ -164,7 +164,7 @@ def apply(folder: str, nginx: Sequence[str], reload: bool = True) -> str | None:
         os.rename(path, path + ".refused")
         if before is not None:
             write_whole(path, before, 0o600)
-        return f"{tried.stderr.strip()}\nhls_edge: nginx refused it, and keeps running as before; what it refused is {path}.refused"
+        return f"{tried.stderr.strip()}\nnginx refused it, and keeps running as before; what it refused is {path}.refused"
     done = subprocess.run([*nginx, "-s", "reload"], capture_output=True, text=True) if reload else None
-    return f"{done.stderr.strip()}\nhls_edge: {path} is right, but nginx took no reload: is it running?" if done and done.returncode else None
+    return f"{done.stderr.strip()}\n{path} is right, but nginx took no reload: is it running?" if done and done.returncode else None
 

@@ -142,7 +142,7 @@ class Edge:
         return found
 
     def edge(self, *words):
-        return self.tool("hls_edge", *words)
+        return self.tool("hls_channel", "edge", *words)
 
     def set_channels(self, text):
         """The file of channels, and passwords for those that have none."""
