@@ -178,8 +178,10 @@ export class Channel {
     async lookAtStatus() {
         const text = await textOf(`${this.base}status`, 4096);
         const status = Object.fromEntries(text.trim().split("\n").map((line) => line.split(" ")).map(([name, number]) => [name, Number(number)]));
-        // a log never gets shorter: the origin was restarted
-        if (status.version < this.status.version) this.forget();
+        const run = (await textOf(`${this.base}hls/run`, 4096)).trim();
+        // a log never gets shorter, and a channel keeps its run: an empty one began
+        if (status.version < this.status.version || run !== (this.run ?? run)) this.forget();
+        this.run = run;
         this.before ??= { version: status.version, at: performance.now() };
         this.status = status;
     }
