@@ -76,10 +76,14 @@ def journal_of(values: dict[str, str], name: str) -> str | None:
 
 
 def said_by(command: str, arguments: list[str]) -> str:
-    """Returns what a command of the program prints about arguments of serve; it names a wrong one."""
+    """Returns what a command of the program prints about arguments of serve; it names a wrong one. A server that runs has none."""
     try:
-        done = subprocess.run([PROGRAM, command, *arguments], stdin=subprocess.DEVNULL, capture_output=True, text=True, errors="replace", timeout=20)
-    except (OSError, subprocess.TimeoutExpired) as fault:
+        done = subprocess.run([PROGRAM, command, *arguments], stdin=subprocess.DEVNULL, capture_output=True, text=True, errors="replace", timeout=20 if command == "size" else 5)
+    except subprocess.TimeoutExpired as fault:
+        if command == "serve":
+            return ""
+        raise Wrong(f"{PROGRAM} can't be run: {fault}") from fault
+    except OSError as fault:
         raise Wrong(f"{PROGRAM} can't be run: {fault}") from fault
     if done.returncode == 2 or done.returncode and command == "size":
         line = done.stderr.strip().split("\n")[0] or f"{PROGRAM} {command} ends with status {done.returncode}"
