@@ -189,7 +189,7 @@ class Site:
                               "--edge-folder", self.edge.files,
                               "--edge-certificate", f"127.0.0.1:{self.edge.port}", "--edge-disk", os.path.join(self.edge.folder, "cache"), "--edge-disk", self.edge.folder]
         units = ["--units"] if os.listdir(self.commands) else []
-        tool = harness.run(os.path.join(ROOT, "deploy", "hls_metrics"), "--words", self.words, "--listen", f"127.0.0.1:{self.metrics_port}",
+        tool = harness.run(os.path.join(ROOT, "deploy", "hls_metrics"), "--channels", self.words, "--listen", f"127.0.0.1:{self.metrics_port}",
                             *units, *(edge or []), stdin=subprocess.DEVNULL,
                             stderr=open(os.path.join(self.folder, "metrics.log"), "a", encoding="utf-8"), env={**os.environ, "PATH": self.commands + ":" + os.environ["PATH"]})
         wait_for(self.metrics_port)
