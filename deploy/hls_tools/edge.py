@@ -29,7 +29,6 @@ class Channel(TypedDict):
     origins: list[str]
 
 
-
 def address(text: str) -> str:
     """An origin's address as nginx wants it. A name would have to be resolved when nginx starts."""
     found = re.fullmatch(r"(\[[0-9a-fA-F:.]+\]|[0-9.]+):([1-9][0-9]{0,4})", text)
@@ -167,4 +166,3 @@ def apply(folder: str, nginx: Sequence[str], reload: bool = True) -> str | None:
         return f"{tried.stderr.strip()}\nnginx refused it, and keeps running as before; what it refused is {path}.refused"
     done = subprocess.run([*nginx, "-s", "reload"], capture_output=True, text=True) if reload else None
     return f"{done.stderr.strip()}\n{path} is right, but nginx took no reload: is it running?" if done and done.returncode else None
-
