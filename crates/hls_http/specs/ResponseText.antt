@@ -6,7 +6,7 @@ use Rattle.hls_http.specs.declared.response_parts.ContentType.TheVariants.{Text,
 use Rattle.hls_http.specs.{declared.response_parts.ExtraField.ExtraField, declared.response_parts.ResponseParts.ResponseParts}
 use Rattle.hls_http.specs.declared.response_parts.CachePolicy.{CachePolicy}
 use Rattle.hls_http.specs.declared.response_parts.CachePolicy.TheVariants.{Unstated, Immutable, Brief, Revalidate}
-use Rattle.hls_http.specs.declared.response_parts.ExtraField.TheVariants.{Nothing, Range, NoRange, Job, Allow}
+use Rattle.hls_http.specs.declared.response_parts.ExtraField.TheVariants.{Nothing, Range, NoRange, Job, Allow, Retry}
 use Rattle.hls_http.specs.declared.fault.HttpFault.TheVariants as faults
 
 -- the status of a fault, and its name as replies print it
@@ -74,7 +74,7 @@ abbrev pub content_lines : Status → ContentType → ℕ → List ℕ
 content_lines status kind len =
     cond (has_content status) (type_line kind ++ (codes "Content-Length: " ++ (decimal len ++ crlf))) []
 
--- a reply has at most one of Content-Range, Location and Allow
+-- a reply has at most one of Content-Range, Location, Allow and Retry-After
 abbrev pub extra_line : ExtraField → List ℕ
 extra_line Nothing = []
 extra_line (Range first last total) =
@@ -82,6 +82,7 @@ extra_line (Range first last total) =
 extra_line (NoRange total) = codes "Content-Range: bytes */" ++ (decimal total ++ crlf)
 extra_line (Job id) = codes "Location: /job/" ++ (decimal id ++ crlf)
 extra_line (Allow methods) = codes "Allow: " ++ (methods.now ++ crlf)
+extra_line (Retry seconds) = codes "Retry-After: " ++ (decimal seconds ++ crlf)
 
 abbrev pub policy_line : List ℕ → List ℕ
 policy_line directives = codes "Cache-Control: " ++ (directives ++ (crlf ++ (codes "Access-Control-Allow-Origin: *" ++ crlf)))
@@ -96,7 +97,7 @@ policy_lines Revalidate = policy_line (codes "no-cache")
 abbrev pub close_line : Bool → List ℕ
 close_line closing = cond closing (codes "Connection: close" ++ crlf) []
 
--- status line, Content-Type, Content-Length, Content-Range or Location or Allow, Cache-Control, Connection, empty line
+-- status line, Content-Type, Content-Length, Content-Range or Location or Allow or Retry-After, Cache-Control, Connection, empty line
 abbrev pub head_text_of : ResponseParts → ℕ → List ℕ
 head_text_of head len =
     status_line head.status ++ (content_lines head.status head.kind len ++ (extra_line head.extra ++ (policy_lines head.policy ++ (close_line head.closing ++ crlf))))

@@ -94,6 +94,9 @@ fn push_extra(out: &mut Vec<u8>, extra: ExtraField<'_>) -> Result<(), AllocError
             out.extend_from_slice(methods)?;
             out.extend_from_slice(b"\r\n")
         }
+        ExtraField::Retry(seconds) => {
+            push_number_between(out, b"Retry-After: ", seconds, b"\r\n")
+        }
     }
 }
 
@@ -120,8 +123,9 @@ fn end_text(closing: bool) -> &'static [u8]
     }
 }
 
-/// Writes the text of a reply's head, as [`write_head`] does, with capacity for the given number of bytes after it.
-fn write_head_with_room(
+/// Writes the text of a reply's head, for a content of `len` bytes: status line, Content-Type, Content-Length, then Content-Range,
+/// Location or Allow, then Cache-Control, Connection, and the empty line. Allocates capacity for `room` more bytes.
+pub fn write_head(
     alloc: Global,
     head: &ResponseParts<'_>,
     len: u64,
@@ -138,14 +142,6 @@ fn write_head_with_room(
     Ok(out)
 }
 
-/// Writes the text of a reply's head, for a content of `len` bytes: status line, Content-Type, Content-Length, then Content-Range,
-/// Location or Allow, then Cache-Control, Connection, and the empty line.
-pub fn write_head(alloc: Global, head: &ResponseParts<'_>, len: u64) -> Result<Vec<u8>, AllocError>
-    ensures { IfOk result (λ v. v.items ≡ head_text_of head.now len) }
-{
-    write_head_with_room(alloc, head, len, 0)
-}
-
 /// Makes a reply whose content is a part of a resource, which is sent as the resource's own slices; a reply to HEAD has none.
 /// Allocates the head, and room for as many bytes of small slices as are sent at once.
 pub fn make_response<M: Resource + Drop>(
@@ -158,11 +154,11 @@ pub fn make_response<M: Resource + Drop>(
 {
     let len = content.len();
     if to_head {
-        let text = write_head(alloc, head, len)?;
+        let text = write_head(alloc, head, len, 0)?;
         return Ok(SendBuffer::from_text(text));
     }
     let room = len.min(MAX_GATHERED_BYTES as u64) as usize;
-    let text = write_head_with_room(alloc, head, len, room)?;
+    let text = write_head(alloc, head, len, room)?;
     Ok(SendBuffer::from_range(text, content))
 }
 

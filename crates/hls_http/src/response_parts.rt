@@ -47,6 +47,8 @@ pub enum ExtraField<'a> {
     Job(u64),
     /// `Allow` with the methods, separated by a comma and a space.
     Allow(&'a [u8]),
+    /// `Retry-After` with a number of seconds (RFC 9110 10.2.3).
+    Retry(u64),
 }
 
 /// What caches may do with a reply (RFC 9111 5.2.2). Replies that state it may be read by pages of any other origin (CORS).

@@ -53,18 +53,20 @@ impl<R: Read, W> Session<R, W> {
         ensures writer { self.new.writer ≡ self.old.writer }
     {
         loop {
-            match find_head(self.source.unread()) {
+            match find_head(self.source.input.unread()) {
                 Ok((head, len)) => {
-                    self.source.consume(len);
+                    self.source.input.consume(len);
                     return Ok(head);
                 }
                 Err(HeadFault::Invalid) => return Err(HeadEnd::BadHead),
                 Err(HeadFault::TooLarge) => return Err(HeadEnd::HeadTooLarge),
                 Err(HeadFault::Partial) => {}
             }
-            match self.source.read_more() {
+            match self.source.input.read_from(&mut self.source.reader) {
                 ReadOutcome::Data => {}
-                ReadOutcome::Eof if self.source.unread().is_empty() => return Err(HeadEnd::Closed),
+                ReadOutcome::Eof if self.source.input.unread().is_empty() => return Err(
+                    HeadEnd::Closed,
+                ),
                 ReadOutcome::Eof => return Err(HeadEnd::CutShort),
                 ReadOutcome::Failed => return Err(HeadEnd::ReadFailed),
             }
@@ -84,17 +86,21 @@ impl<R: Read, W> Session<R, W> {
             if *body == BodyFraming::Length(0) {
                 return Ok(BodyRead::End);
             }
-            match find_token(self.source.unread(), *body) {
+            match find_token(self.source.input.unread(), *body) {
                 Ok(BodyToken::Piece(len, next)) => {
-                    self.source.consume(len);
+                    self.source.input.consume(len);
                     *body = next;
                     return Ok(BodyRead::Piece);
                 }
                 Ok(BodyToken::Frame(len, next)) => {
-                    self.source.consume(len);
+                    self.source.input.consume(len);
                     *body = next;
                 }
-                Err(TokenFault::Incomplete) => match self.source.read_more() {
+                Err(TokenFault::Incomplete) => match self
+                    .source
+                    .input
+                    .read_from(&mut self.source.reader)
+                {
                     ReadOutcome::Data => {}
                     ReadOutcome::Eof => return Err(BodyEnd::CutShort),
                     ReadOutcome::Failed => return Err(BodyEnd::ReadFailed),
