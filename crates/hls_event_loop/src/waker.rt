@@ -22,12 +22,19 @@ fn epoll_add(poll: &Poll, file: i32, flags: u32, token: Token) -> bool {
     os::epoll_ctl(set, libc::net::EPOLL_CTL_ADD, file, events, token.0 as u64) == 0
 }
 
-/// Why a worker was woken by another thread: for one reason or for both.
+/// Why another thread wakes a worker.
+#[derive(Clone, Copy)]
+pub(crate) enum WakeReason {
+    /// It leaves a connection to the worker.
+    Connection,
+    /// What the worker's connections wait for may have happened.
+    Change,
+}
+
+/// The reasons for which a worker was woken: one or both.
 #[derive(Clone, Copy, Drop)]
 pub(crate) struct WakeReasons {
-    /// Another worker left a connection to this one.
     pub connection: bool,
-    /// What its connections wait for may have happened.
     pub change: bool,
 }
 
@@ -63,20 +70,14 @@ impl WorkerWaker {
     }
 
     /// Ends the worker's current or next poll. A reason that it hasn't taken yet was written before.
-    fn wake(&self, reason: &AtomicBool) {
-        if !reason.swap(true, Ordering::SeqCst) {
+    pub fn wake(&self, reason: WakeReason) {
+        let given = match reason {
+            WakeReason::Connection => &self.connection,
+            WakeReason::Change => &self.change,
+        };
+        if !given.swap(true, Ordering::SeqCst) {
             let _ = libc::write(self.counter.as_raw_fd(), &1u64.to_ne_bytes());
         }
-    }
-
-    /// Leaves a connection to the worker.
-    pub fn wake_for_connection(&self) {
-        self.wake(&self.connection);
-    }
-
-    /// Has the worker run its waiting connections.
-    pub fn wake_for_change(&self) {
-        self.wake(&self.change);
     }
 
     /// Takes the reasons of a wake. A later one is an event again.

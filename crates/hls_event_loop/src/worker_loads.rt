@@ -1,6 +1,6 @@
 //! What the workers of one listener know of each other, and how other threads wake them.
 
-use crate::waker::{WakeReasons, WorkerWaker};
+use crate::waker::{WakeReason, WakeReasons, WorkerWaker};
 use mio::{Poll, Token};
 use std::alloc::Global;
 use std::io;
@@ -123,7 +123,7 @@ impl WorkerLoads {
             return;
         };
         if let Some(worker_load) = self.loads.get(index) {
-            worker_load.waker.wake_for_connection();
+            worker_load.waker.wake(WakeReason::Connection);
         }
     }
 
@@ -163,7 +163,7 @@ impl WorkerLoads {
         }
         for worker_load in &self.loads {
             if worker_load.waits.load(Ordering::SeqCst) {
-                worker_load.waker.wake_for_change();
+                worker_load.waker.wake(WakeReason::Change);
             }
         }
     }
@@ -176,7 +176,7 @@ impl WorkerLoads {
                 .store(now_ms.saturating_add(LAST_RESPONSES_MS), Ordering::SeqCst);
         }
         for worker_load in &self.loads {
-            worker_load.waker.wake_for_connection();
+            worker_load.waker.wake(WakeReason::Connection);
         }
         self.wake_waiting();
     }
