@@ -4,12 +4,15 @@ use Rattle.std.specs.Prelude.{nat_le, slice_get, unwrap_or}
 use Rattle.std.specs.Option.{option_map, option_or}
 use Rattle.std.proofs.lemmas.Option.{unwrap_or-slice_get}
 use Rattle.std.specs.List.{find}
+use Rattle.std.proofs.Math.Nat.{le-max_right}
 use Rattle.std.proofs.lemmas.Bool.{lt-leb, leb-true}
 use Rattle.hls_media_laws.specs.declared.facts.Facts.{Facts}
 use Rattle.hls_media_laws.specs.FactLists.{no_facts}
 use Rattle.hls_record.specs.RecordingData.{RecordingData}
 use Rattle.hls_core_laws.specs.State.{State}
-use Rattle.hls_housekeeper.specs.Away.{begins_second, earlier, end_us_of, first_of, is_boundary, least_end, next_boundary, present_at, within}
+use Rattle.hls_mend.specs.MendedUnits.{is_audio}
+use Rattle.hls_housekeeper.specs.declared.fill.FillSpan.{FillSpan}
+use Rattle.hls_housekeeper.specs.Away.{begins_second, earlier, end_us_of, first_of, is_boundary, least_end, least_span_us, next_boundary, over_end_us, present_at, span_by, span_over, span_to}
 
 -- ---- renditions
 
@@ -54,17 +57,32 @@ boundary-after : (audio : Bool) (end_us least_us : ℕ) (f : Facts) → is_bound
 boundary-after audio end_us least_us f is =
     leb-true least_us (f.start_us - end_us) (and_second (f.sync && (not audio || begins_second f)) (nat_le least_us (f.start_us - end_us)) is)
 
-within_none : (fill_us limit_us end_us least_us : ℕ) (o : Option Facts) → ((f : Facts) → o ≡ Some f → least_us ≤ f.start_us - end_us) → limit_us - end_us < least_us
-    → within fill_us limit_us end_us o ≡ None
-within_none fill_us limit_us end_us least_us None after far = refl
-within_none fill_us limit_us end_us least_us (Some f) after far =
-    let gap : least_us ≤ f.start_us - end_us = after f refl in
-    let late : limit_us < f.start_us = omega arith in
-    ap (λ (b : Bool). if b && nat_le (f.start_us - end_us) fill_us then Some f else None) (lt-leb f.start_us limit_us late)
+either_none : (b : Bool) (x y : Option FillSpan) → x ≡ None → y ≡ None → (if b then x else y) ≡ None
+either_none true x y first second = first
+either_none false x y first second = second
+
+-- a filler from a boundary on ends after it
+over_late : (limit_us least_us : ℕ) (f : Facts) → limit_us < f.start_us → limit_us < over_end_us least_us f
+over_late limit_us least_us f late =
+    let above : f.start_us + least_us ≤ over_end_us least_us f = le-max_right f.end_us (f.start_us + least_us) in
+    omega (arith, late, above)
+
+span_none : (fill_us limit_us : ℕ) (lead rec : RecordingData) (o : Option Facts)
+    → ((f : Facts) → o ≡ Some f → least_span_us (is_audio rec.init) ≤ f.start_us - end_us_of rec) → limit_us - end_us_of rec < least_span_us (is_audio rec.init)
+    → span_by fill_us limit_us lead rec o ≡ None
+span_none fill_us limit_us lead rec None after far = refl
+span_none fill_us limit_us lead rec (Some f) after far =
+    let gap : least_span_us (is_audio rec.init) ≤ f.start_us - end_us_of rec = after f refl in
+    let late : limit_us < f.start_us = omega (arith, gap, far) in
+    let above : limit_us < over_end_us (least_span_us (is_audio rec.init)) f = over_late limit_us (least_span_us (is_audio rec.init)) f late in
+    either_none (nat_le (f.start_us - end_us_of rec) fill_us) (span_to limit_us lead rec f) (span_over fill_us limit_us (least_span_us (is_audio rec.init)) lead rec f)
+    (let no : nat_le f.start_us limit_us ≡ false = lt-leb f.start_us limit_us late in rw no refl)
+    (let no : nat_le (over_end_us (least_span_us (is_audio rec.init)) f) limit_us ≡ false = lt-leb (over_end_us (least_span_us (is_audio rec.init)) f) limit_us above in rw no refl)
 
 -- where all that are there haven't come far enough, nothing is filled
-pub nothing_within : (audio : Bool) (fill_us limit_us end_us least_us : ℕ) (fs : List Facts) → limit_us - end_us < least_us
-    → within fill_us limit_us end_us (next_boundary audio end_us least_us fs) ≡ None
-nothing_within audio fill_us limit_us end_us least_us fs far =
-    within_none fill_us limit_us end_us least_us (next_boundary audio end_us least_us fs)
-    (λ f is. boundary-after audio end_us least_us f (found_passes (is_boundary audio end_us least_us) (drop (length fs - 4096) fs) f is)) far
+pub nothing_due : (fill_us limit_us : ℕ) (lead rec : RecordingData) → limit_us - end_us_of rec < least_span_us (is_audio rec.init)
+    → span_by fill_us limit_us lead rec (next_boundary (is_audio lead.init) (end_us_of rec) (least_span_us (is_audio rec.init)) lead.facts) ≡ None
+nothing_due fill_us limit_us lead rec far =
+    span_none fill_us limit_us lead rec (next_boundary (is_audio lead.init) (end_us_of rec) (least_span_us (is_audio rec.init)) lead.facts)
+    (λ f is. boundary-after (is_audio lead.init) (end_us_of rec) (least_span_us (is_audio rec.init)) f
+    (found_passes (is_boundary (is_audio lead.init) (end_us_of rec) (least_span_us (is_audio rec.init))) (drop (length lead.facts - 4096) lead.facts) f is)) far

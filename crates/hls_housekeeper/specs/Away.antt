@@ -1,5 +1,6 @@
--- Which renditions are away, and how far each is filled: up to the next boundary of a rendition that is present.
-use Rattle.std.specs.Prelude.{ℕ, zero, suc, ◌+◌, ◌-◌, ◌*◌, ◌/◌, ◌%◌, ◌^◌, nat_le, nat_lt, min, Bool, true, false, not, ◌&&◌, ◌||◌, if◌then◌else◌, is_some, Option, Some, None, List, length, drop, slice_index_or}
+-- Which renditions are away, and how far each is filled: up to the next boundary of a rendition that is present, or, where that is too far
+-- away, from it on.
+use Rattle.std.specs.Prelude.{ℕ, zero, suc, ◌+◌, ◌-◌, ◌*◌, ◌/◌, ◌%◌, ◌^◌, nat_le, nat_lt, min, max, Bool, true, false, not, ◌&&◌, ◌||◌, if◌then◌else◌, is_some, Option, Some, None, List, length, drop, slice_index_or}
 use Rattle.std.specs.Option.{option_map, option_or}
 use Rattle.std.specs.List.{find}
 use Rattle.hls_media_laws.specs.declared.facts.Facts.{Facts}
@@ -11,6 +12,7 @@ use Rattle.hls_core_laws.specs.declared.event.Event.{Event, TheVariants.Accept}
 use Rattle.hls_core.specs.Getters.{recording_of, finished_at}
 use Rattle.hls_mend.specs.MendedUnits.{is_audio, span_filler}
 use Rattle.hls_mend.specs.declared.mended.ReadUnit.{ReadUnit}
+use Rattle.hls_housekeeper.specs.declared.fill.FillSpan.{FillSpan}
 
 -- ---- open, present and away
 
@@ -99,32 +101,58 @@ abbrev pub least_span_us : Bool → ℕ
 least_span_us true = 100000
 least_span_us false = 1
 
--- a boundary up to which all that are there have come, and which is at most `fill_us` after the end
-abbrev pub within : ℕ → ℕ → ℕ → Option Facts → Option Facts
-within fill_us limit_us end_us None = None
-within fill_us limit_us end_us (Some f) = if nat_le f.start_us limit_us && nat_le (f.start_us - end_us) fill_us then Some f else None
-
--- the boundary up to which a rendition is filled
-abbrev pub fill_end : ℕ → ℕ → RecordingData → RecordingData → Option Facts
-fill_end fill_us limit_us lead rec =
-    within fill_us limit_us (end_us_of rec) (next_boundary (is_audio lead.init) (end_us_of rec) (least_span_us (is_audio rec.init)) lead.facts)
-
--- ---- fillers
+-- ---- spans
 
 -- a time in ticks at another scale, rounded up
 abbrev pub rescaled : ℕ → ℕ → ℕ → ℕ
 rescaled ticks from to = (ticks * to + (from - 1)) / from
 
--- from the rendition's end to the boundary, in ticks of the rendition
-abbrev pub span_ticks : RecordingData → RecordingData → Facts → ℕ
-span_ticks lead rec f = min (rescaled f.start (timing_track lead.init).scale (timing_track rec.init).scale - last_end rec.facts) (2 ^ 64 - 1)
+-- a tick, or the last one that there is
+abbrev pub bounded : ℕ → ℕ
+bounded tick = min tick (2 ^ 64 - 1)
 
-abbrev pub filler_to : RecordingData → RecordingData → Option Facts → Option ReadUnit
-filler_to lead rec None = None
-filler_to lead rec (Some f) = span_filler rec (span_ticks lead rec f)
+-- a tick of the leader, in ticks of the rendition
+abbrev pub tick_at : RecordingData → RecordingData → ℕ → ℕ
+tick_at lead rec tick = rescaled tick (timing_track lead.init).scale (timing_track rec.init).scale
+
+-- from the rendition's end to a boundary that all that are there have reached
+abbrev pub span_to : ℕ → RecordingData → RecordingData → Facts → Option FillSpan
+span_to limit_us lead rec f =
+    if nat_le f.start_us limit_us then Some (record { start = last_end rec.facts; ticks = bounded (tick_at lead rec f.start - last_end rec.facts) }) else None
+
+-- where a filler after a hole ends: with the leader's unit, and not sooner than the least span allows
+abbrev pub over_end_us : ℕ → Facts → ℕ
+over_end_us least_us f = max f.end_us (f.start_us + least_us)
+
+abbrev pub over_ticks : ℕ → RecordingData → RecordingData → Facts → ℕ
+over_ticks least_us lead rec f =
+    bounded (max (tick_at lead rec (bounded (f.start + f.duration)) - tick_at lead rec f.start) (rescaled least_us 1000000 (timing_track rec.init).scale))
+
+-- after a hole: from the boundary to its end, if all that are there have come up to it, and it isn't longer than `fill_us`
+abbrev pub span_over : ℕ → ℕ → ℕ → RecordingData → RecordingData → Facts → Option FillSpan
+span_over fill_us limit_us least_us lead rec f =
+    if nat_le (over_end_us least_us f) limit_us && nat_le (over_end_us least_us f - f.start_us) fill_us
+    then Some (record { start = bounded (tick_at lead rec f.start); ticks = over_ticks least_us lead rec f }) else None
+
+-- up to the boundary if it is at most `fill_us` after the end; otherwise the others have a hole there, and the rendition has it, too
+abbrev pub span_by : ℕ → ℕ → RecordingData → RecordingData → Option Facts → Option FillSpan
+span_by fill_us limit_us lead rec None = None
+span_by fill_us limit_us lead rec (Some f) =
+    if nat_le (f.start_us - end_us_of rec) fill_us then span_to limit_us lead rec f else span_over fill_us limit_us (least_span_us (is_audio rec.init)) lead rec f
+
+-- what is filled of a rendition next
+abbrev pub fill_span : ℕ → ℕ → RecordingData → RecordingData → Option FillSpan
+fill_span fill_us limit_us lead rec =
+    span_by fill_us limit_us lead rec (next_boundary (is_audio lead.init) (end_us_of rec) (least_span_us (is_audio rec.init)) lead.facts)
+
+-- ---- fillers
+
+abbrev pub filler_in : RecordingData → Option FillSpan → Option ReadUnit
+filler_in rec None = None
+filler_in rec (Some span) = span_filler rec span.start span.ticks
 
 abbrev pub next_filler : ℕ → Option ℕ → Option RecordingData → Option RecordingData → Option ReadUnit
-next_filler fill_us (Some limit_us) (Some lead) (Some rec) = filler_to lead rec (fill_end fill_us limit_us lead rec)
+next_filler fill_us (Some limit_us) (Some lead) (Some rec) = filler_in rec (fill_span fill_us limit_us lead rec)
 next_filler fill_us limit_us lead rec = None
 
 -- the filler that a rendition needs next, if it is away and others are there

@@ -16,8 +16,16 @@ use std::io::Eprint;
 pub struct EncoderWatch {
     /// Since when each rendition is open and watched, in milliseconds of the clock; 0 if it isn't.
     since: [u64; MOST_RENDITIONS],
-    /// For each rendition, whether nothing was heard of its encoder for too long.
+    /// For each rendition, whether its encoder is away, or nothing is heard of any.
     pub silent: [bool; MOST_RENDITIONS],
+    /// For each rendition, whether nothing was heard of its encoder for too long while another one was there.
+    is_away: [bool; MOST_RENDITIONS],
+    /// For each rendition, whether it is silent since before another encoder came back.
+    is_missed: [bool; MOST_RENDITIONS],
+    /// Since when an encoder is there, in milliseconds of the clock; 0 if none is.
+    present_since: u64,
+    /// When an encoder was last heard, in milliseconds of the clock; 0 if never.
+    newest: u64,
     /// The number of fillers of each rendition since its encoder is away.
     pub fillers: [u64; MOST_RENDITIONS],
     /// How many of these fillers were counted.
@@ -44,6 +52,10 @@ impl EncoderWatch {
         EncoderWatch {
             since: [0; MOST_RENDITIONS],
             silent: [false; MOST_RENDITIONS],
+            is_away: [false; MOST_RENDITIONS],
+            is_missed: [false; MOST_RENDITIONS],
+            present_since: 0,
+            newest: 0,
             fillers: [0; MOST_RENDITIONS],
             counted_fillers: 0,
             away: [Alert::new(); MOST_RENDITIONS],
@@ -51,8 +63,8 @@ impl EncoderWatch {
         }
     }
 
-    /// Finds the renditions of whose encoders nothing was heard for more than `wait_ms`, and logs the news. Where nothing is heard of any,
-    /// there is none that the others wait for.
+    /// Finds the renditions whose encoders are away, and logs the news: nothing was heard of them for more than `wait_ms`, while another one
+    /// was there. So once the first encoder comes back after an outage of all, the others have as long to follow before they are filled.
     pub fn update<E: Eprint, H: ServerStatus>(
         &mut self,
         log: &OperatorLog<'_, E>,
@@ -62,18 +74,51 @@ impl EncoderWatch {
         clock: WatchClock,
     ) {
         self.count_fillers(status);
-        let mut is_any_present = false;
-        for number in 0..renditions.len().min(MOST_RENDITIONS) {
+        let count = renditions.len().min(MOST_RENDITIONS);
+        let mut newest = 0;
+        for number in 0..count {
             let silence_ms = self.silence_ms(number, snapshot, status, clock.now);
             self.silent[number] = silence_ms > clock.wait_ms;
-            is_any_present |= self.since[number] > 0 && !self.silent[number];
+            if self.since[number] > 0 {
+                newest = clock.now.saturating_sub(silence_ms).max(newest);
+            }
         }
-        for number in 0..renditions.len().min(MOST_RENDITIONS) {
+        let is_any_present = self.find_away(count, newest, clock);
+        for number in 0..count {
             let name = DisplayName(&renditions[number].name);
             self.log_news(log, number, name, is_any_present, clock.now);
-            self.log_jump(log, number, name, status.is_ahead(number), clock.now);
+            self.log_jump(
+                log,
+                number,
+                name,
+                status.signs().is_ahead(number),
+                clock.now,
+            );
         }
         self.counted_fillers = sum(&self.fillers);
+    }
+
+    /// Finds which of the silent renditions are away: once another encoder is there for more than `wait_ms`, or for the second time. One that
+    /// was away stays so until its encoder is heard again. Returns whether an encoder is there. Nothing runs while none is, so that is seen
+    /// from when an encoder was last heard, now and before.
+    fn find_away(&mut self, count: usize, newest: u64, clock: WatchClock) -> bool {
+        let is_any_present = newest > 0 && clock.now.saturating_sub(newest) <= clock.wait_ms;
+        let was_none_present = newest.saturating_sub(self.newest) > clock.wait_ms;
+        let begins = is_any_present && (was_none_present || self.present_since == 0);
+        if begins || !is_any_present {
+            self.present_since = if begins { clock.now } else { 0 };
+        }
+        self.newest = newest;
+        let present_ms = clock.now.saturating_sub(self.present_since);
+        let is_due = is_any_present && present_ms > clock.wait_ms;
+        for number in 0..count.min(MOST_RENDITIONS) {
+            let is_silent = self.silent[number];
+            let is_due = is_due || (begins && self.is_missed[number]);
+            self.is_away[number] = is_silent && (self.is_away[number] || is_due);
+            self.is_missed[number] = is_silent && (self.is_missed[number] || begins);
+            self.silent[number] = is_silent && (self.is_away[number] || !is_any_present);
+        }
+        is_any_present
     }
 
     /// Counts the fillers since the last call of `update`.
@@ -100,7 +145,7 @@ impl EncoderWatch {
         if self.since[number] == 0 {
             self.since[number] = now;
         }
-        let heard = status.last_heard_ms(number).max(self.since[number]);
+        let heard = status.signs().last_heard_ms(number).max(self.since[number]);
         now.saturating_sub(heard)
     }
 
@@ -123,7 +168,8 @@ impl EncoderWatch {
         }
     }
 
-    /// Logs that a rendition is away, at most once a minute, and that its encoder is back.
+    /// Logs that a rendition is away, at most once a minute, and that its encoder is back. While no encoder is there, it is no news that one
+    /// is away.
     fn log_news<E: Eprint>(
         &mut self,
         log: &OperatorLog<'_, E>,
@@ -135,8 +181,7 @@ impl EncoderWatch {
         if number >= MOST_RENDITIONS {
             return;
         }
-        let is_away = self.silent[number] && is_any_present;
-        match self.away[number].update(is_away, true, now) {
+        match self.away[number].update(self.is_away[number], is_any_present, now) {
             AlertChange::Raised => log_away(log, name, self.fillers[number]),
             AlertChange::Cleared => {
                 log_returned(log, name, self.fillers[number]);

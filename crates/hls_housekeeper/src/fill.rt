@@ -5,7 +5,7 @@ ghost use Rattle.std.specs.Option.{option_copied};
 ghost use Rattle.hls_core_laws.specs.Moves.{IsFittingAsSeen};
 ghost use Rattle.hls_media_laws.specs.{FactLists.fact_at, IsInitOrUnit.IsUnit};
 ghost use Rattle.hls_mend.specs.MendedUnits.{is_audio as is_audio_init};
-ghost use Rattle.hls_housekeeper.specs.Away.{accept_of, away_at, begins_second as second_begins, fill_end, filler_of, filler_to, is_boundary as is_boundary_at, leader_at, least_span_us as least_span, next_boundary as next_boundary_of, next_filler, rescaled, span_ticks as ticks_of_span, within as within_time};
+ghost use Rattle.hls_housekeeper.specs.Away.{accept_of, away_at, begins_second as second_begins, fill_span, filler_in, filler_of, is_boundary as is_boundary_at, leader_at, least_span_us as least_span, next_boundary as next_boundary_of, next_filler, over_ticks as ticks_over, rescaled, span_by, span_over as span_over_unit, span_to as span_to_boundary, tick_at as tick_of};
 
 use crate::away::{away_recording, end_us, find_leader, is_audio, least_end, present_recording};
 use hls_core::snapshot::Snapshot;
@@ -21,6 +21,13 @@ const MOST_UNITS: u64 = 4096;
 
 /// Microseconds per second.
 const SECOND: u64 = 1_000_000;
+
+/// Where a filler starts and how long it lasts, in ticks of its rendition.
+#[derive(Clone, Copy)]
+pub struct FillSpan {
+    pub start: u64,
+    pub ticks: u64,
+}
 
 /// Whether a second of the clock begins within a unit.
 fn begins_second(facts: Facts) -> bool
@@ -73,27 +80,89 @@ fn least_span_us(is_audio: bool) -> u64
     if is_audio { 100_000 } else { 1 }
 }
 
-/// The boundary, if all that are there have come as far, and it is at most `fill_us` after the end.
-fn within(fill_us: u32, limit_us: u64, end_us: u64, found: Option<Facts>) -> Option<Facts>
-    ensures { result ≡ within_time fill_us limit_us end_us found }
+/// A tick of the leader, in ticks of the rendition, rounded up.
+fn tick_at(lead: &Recording, recording: &Recording, tick: u64) -> u128
+    ensures { result ≡ tick_of lead.now recording.now tick }
 {
-    let facts = found?;
-    let gap_us = facts.start_us.saturating_sub(end_us);
-    if facts.start_us > limit_us || gap_us > u64::from(fill_us) {
-        return None;
-    }
-    Some(facts)
+    let from = u128::from(lead.init().timing_track().scale);
+    let to = u128::from(recording.init().timing_track().scale);
+    (u128::from(tick) * to + (from - 1)) / from
 }
 
-/// The boundary up to which a rendition is filled.
-#[tactic(auto, using(crate::proofs::FillLaws::nothing_within))]
-fn find_fill_end(
+/// From the rendition's end to a boundary, if all that are there have come as far.
+fn span_to(limit_us: u64, lead: &Recording, recording: &Recording, facts: Facts) -> Option<FillSpan>
+    ensures { result ≡ span_to_boundary limit_us lead.now recording.now facts }
+{
+    if facts.start_us > limit_us {
+        return None;
+    }
+    let start = recording.last_end();
+    let span = tick_at(lead, recording, facts.start).saturating_sub(u128::from(start));
+    let ticks = u64::try_from(span).unwrap_or(u64::MAX);
+    Some(FillSpan { start, ticks })
+}
+
+/// The time of a unit of the leader, but at least `least_us`, in ticks of the rendition.
+fn over_ticks(least_us: u64, lead: &Recording, recording: &Recording, facts: Facts) -> u64
+    ensures { result ≡ ticks_over least_us lead.now recording.now facts }
+{
+    let start = tick_at(lead, recording, facts.start);
+    let end = tick_at(lead, recording, facts.start.saturating_add(facts.duration));
+    let scale = u128::from(recording.init().timing_track().scale);
+    let least = (u128::from(least_us) * scale + 999_999) / 1_000_000;
+    u64::try_from(end.saturating_sub(start).max(least)).unwrap_or(u64::MAX)
+}
+
+/// After a hole: from a boundary to its end, if all that are there have come up to it, and it isn't longer than `fill_us`.
+fn span_over(
     fill_us: u32,
     limit_us: u64,
     lead: &Recording,
     recording: &Recording,
-) -> Option<Facts>
-    ensures { result ≡ fill_end fill_us limit_us lead.now recording.now }
+    facts: Facts,
+) -> Option<FillSpan>
+    ensures { result ≡ span_over_unit fill_us limit_us (least_span (is_audio_init recording.now.init)) lead.now recording.now facts }
+{
+    let least = least_span_us(is_audio(recording));
+    let from = u128::from(facts.start_us);
+    let until = u128::from(facts.end_us).max(from + u128::from(least));
+    if until > u128::from(limit_us) || until.saturating_sub(from) > u128::from(fill_us) {
+        return None;
+    }
+    let start = tick_at(lead, recording, facts.start);
+    Some(FillSpan {
+        start: u64::try_from(start).unwrap_or(u64::MAX),
+        ticks: over_ticks(least, lead, recording, facts),
+    })
+}
+
+/// What is filled up to a boundary, or from it on if it is more than `fill_us` after the rendition's end.
+fn span_at(
+    fill_us: u32,
+    limit_us: u64,
+    lead: &Recording,
+    recording: &Recording,
+    found: Option<Facts>,
+) -> Option<FillSpan>
+    ensures { result ≡ span_by fill_us limit_us lead.now recording.now found }
+{
+    let facts = found?;
+    let gap_us = facts.start_us.saturating_sub(end_us(recording));
+    if gap_us <= u64::from(fill_us) {
+        return span_to(limit_us, lead, recording, facts);
+    }
+    span_over(fill_us, limit_us, lead, recording, facts)
+}
+
+/// What is filled of a rendition next.
+#[tactic(auto, using(crate::proofs::FillLaws::nothing_due))]
+fn find_span(
+    fill_us: u32,
+    limit_us: u64,
+    lead: &Recording,
+    recording: &Recording,
+) -> Option<FillSpan>
+    ensures { result ≡ fill_span fill_us limit_us lead.now recording.now }
 {
     let end = end_us(recording);
     let least = least_span_us(is_audio(recording));
@@ -101,33 +170,23 @@ fn find_fill_end(
     if limit_us.saturating_sub(end) < least {
         return None;
     }
-    within(fill_us, limit_us, end, find_boundary(lead, end, least))
+    let found = find_boundary(lead, end, least);
+    span_at(fill_us, limit_us, lead, recording, found)
 }
 
-/// From the rendition's end to a unit of the leader, in ticks.
-fn span_ticks(lead: &Recording, recording: &Recording, facts: Facts) -> u64
-    ensures { result ≡ ticks_of_span lead.now recording.now facts }
-{
-    let from = u128::from(lead.init().timing_track().scale);
-    let to = u128::from(recording.init().timing_track().scale);
-    let end = (u128::from(facts.start) * to + (from - 1)) / from;
-    let span = end.saturating_sub(u128::from(recording.last_end()));
-    u64::try_from(span).unwrap_or(u64::MAX)
-}
-
-/// A filler up to the next boundary of the leader, if there is one.
-fn fill_to_boundary(
+/// The filler that a rendition needs next, if there is one.
+fn make_next_filler(
     alloc: Global,
     fill_us: u32,
     limit_us: u64,
     lead: &Recording,
     recording: &Recording,
 ) -> Result<Option<ReadUnit>, AllocError>
-    ensures value { IfOk result (λ o. o ≡ filler_to lead.now recording.now (fill_end fill_us limit_us lead.now recording.now)) }
+    ensures value { IfOk result (λ o. o ≡ filler_in recording.now (fill_span fill_us limit_us lead.now recording.now)) }
     ensures valid { IfOk result (λ o. IfSome o (λ u. IsUnit recording.now.init u.bytes u.facts)) }
 {
-    match find_fill_end(fill_us, limit_us, lead, recording) {
-        Some(facts) => make_span_filler(alloc, recording, span_ticks(lead, recording, facts)),
+    match find_span(fill_us, limit_us, lead, recording) {
+        Some(span) => make_span_filler(alloc, recording, span.start, span.ticks),
         None => Ok(None),
     }
 }
@@ -142,7 +201,7 @@ fn leader_recording<'a>(snapshot: &'a Snapshot, silent: &[bool]) -> Option<&'a R
     }
 }
 
-/// The filler that a rendition needs next, if it is away and others are there: up to the next boundary of these.
+/// The filler that a rendition needs next, if it is away and others are there: up to the next boundary of these, or after their hole.
 #[tactic(auto, unfolding(crate::specs::Away::filler_of))]
 pub fn find_filler(
     alloc: Global,
@@ -163,7 +222,7 @@ pub fn find_filler(
     ) else {
         return Ok(None);
     };
-    match fill_to_boundary(alloc, fill_us, limit_us, lead, recording)? {
+    match make_next_filler(alloc, fill_us, limit_us, lead, recording)? {
         Some(filler) => Ok(Some(Event::Accept {
             rendition,
             facts: filler.facts,

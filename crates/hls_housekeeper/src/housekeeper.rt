@@ -37,6 +37,10 @@ const REST_MS: u64 = 10;
 /// of these notifies the housekeeper; and where no unit can be accepted meanwhile, only its trim makes room.
 const RETRY_MS: u64 = 1000;
 
+/// How long the housekeeper sleeps while the journal is behind the channel, in milliseconds: a disk that stalls is noticed, even if no unit
+/// arrives.
+const BEHIND_MS: u64 = 100;
+
 /// How a round of upkeep ended, if no event was refused.
 #[derive(Clone, Copy)]
 pub enum UpkeepOutcome {
@@ -128,9 +132,17 @@ struct Housekeeper {
     logged_at_ms: u64,
     backoff: TrimBackoff,
     written: WrittenUnits,
+    /// Whether the journal doesn't have all of the state that was seen last.
+    is_behind: bool,
 }
 
 impl Housekeeper {
+    /// Notes a state of the channel, and how many versions the journal has.
+    fn note_journal(&mut self, written: u64, snapshot: &Snapshot) {
+        self.written.update(written, snapshot);
+        self.is_behind = written < snapshot.version();
+    }
+
     /// Returns what holds trims back at a moment of the clock and of the channel.
     fn find_hold(&self, now: u64, time: u64) -> TrimHold {
         TrimHold {
@@ -265,7 +277,8 @@ fn inspect_channel<R: Wait + Eprint, H: ServerStatus>(
     }
 }
 
-/// The pause after a round in which renditions were filled too. Where an allocation failed, the housekeeper runs again by itself.
+/// The pause after a round in which renditions were filled too. Where an allocation failed, or the journal is behind, the housekeeper runs
+/// again by itself.
 fn plan_after_filling<E: Eprint>(
     log: &OperatorLog<'_, E>,
     housekeeper: &mut Housekeeper,
@@ -273,17 +286,22 @@ fn plan_after_filling<E: Eprint>(
     now: u64,
     pause: NextRound,
 ) -> NextRound {
-    let Err(refusal) = filled else {
-        return pause;
-    };
-    housekeeper.logged_at_ms = log_refusal(log, refusal, housekeeper.logged_at_ms, now);
-    if refusal == Refusal::Memory {
-        return NextRound {
-            length: RETRY_MS,
-            again: true,
-        };
+    if let Err(refusal) = filled {
+        housekeeper.logged_at_ms = log_refusal(log, refusal, housekeeper.logged_at_ms, now);
+        if refusal == Refusal::Memory {
+            return NextRound {
+                length: RETRY_MS,
+                again: true,
+            };
+        }
     }
-    pause
+    if pause.again || !housekeeper.is_behind {
+        return pause;
+    }
+    NextRound {
+        length: BEHIND_MS,
+        again: true,
+    }
 }
 
 /// Runs upkeep whenever it is notified, until the server has closed, and fills the renditions that are away if units are mended; retries
@@ -307,6 +325,7 @@ pub fn run_housekeeper<R: Wait + Clock + Eprint + Env, H: ServerStatus>(
         logged_at_ms: 0,
         backoff: TrimBackoff::none(),
         written: WrittenUnits::new(),
+        is_behind: false,
     };
     let mut monitor = Monitor::new(monotonic_ms(rt).max(1));
     let mut watch = EncoderWatch::new();
@@ -317,9 +336,7 @@ pub fn run_housekeeper<R: Wait + Clock + Eprint + Env, H: ServerStatus>(
         let mut time = 0;
         if let Ok(snapshot) = turn.look(rt, alloc, pass) {
             time = channel_time(&snapshot);
-            housekeeper
-                .written
-                .update(status.written_version(), &snapshot);
+            housekeeper.note_journal(status.written_version(), &snapshot);
             inspect_channel(&log, settings, &snapshot, status, &mut monitor, now);
             watch_encoders(&log, settings, &snapshot, status, &mut watch, now);
         }

@@ -1,5 +1,6 @@
 //! What the housekeeper needs to know of the server around it.
 
+use hls_mend::EncoderSigns;
 use hls_metrics::Measurements;
 use std::sync::Wait;
 
@@ -8,12 +9,8 @@ pub trait ServerStatus {
     /// Returns the number of jobs for catch-up recordings, in any phase. May wait.
     fn job_count<R: Wait>(&self, rt: &R) -> usize;
 
-    /// Returns when a unit of the rendition last arrived, recorded or not, in milliseconds of the monotonic clock; 0 if none did. One that
-    /// is ahead of the channel doesn't count.
-    fn last_heard_ms(&self, rendition: usize) -> u64;
-
-    /// Whether the last unit of the rendition was refused as ahead of the channel.
-    fn is_ahead(&self, rendition: usize) -> bool;
+    /// Returns the signs of life of the renditions' encoders.
+    fn signs(&self) -> &EncoderSigns;
 
     /// Returns what the threads of the server measure; the housekeeper stores what it finds.
     fn measurements(&self) -> &Measurements;

@@ -134,13 +134,13 @@ source_by rec silent (Some n) = option_map (source_at rec silent n) (unit_at rec
 unfoldable pub source_of : InitData → RecordingData → Option FillerSource
 source_of init rec = source_by rec (silent_of (is_audio init) rec.head) (filler_source (is_audio init) rec.facts)
 
-abbrev pub span_filler_by : RecordingData → ℕ → Option FillerSource → Option ReadUnit
-span_filler_by rec ticks None = None
-span_filler_by rec ticks (Some s) = filler rec.init s (last_end rec.facts) ticks
+abbrev pub span_filler_by : RecordingData → ℕ → ℕ → Option FillerSource → Option ReadUnit
+span_filler_by rec start ticks None = None
+span_filler_by rec start ticks (Some s) = filler rec.init s start ticks
 
--- a filler from the end of a rendition for the given number of ticks, if one can be made
-unfoldable pub span_filler : RecordingData → ℕ → Option ReadUnit
-span_filler rec ticks = span_filler_by rec ticks (source_of rec.init rec)
+-- a filler of a rendition from `start` for the given number of ticks, if one can be made
+unfoldable pub span_filler : RecordingData → ℕ → ℕ → Option ReadUnit
+span_filler rec start ticks = span_filler_by rec start ticks (source_of rec.init rec)
 
 abbrev pub fillers_by : InitData → ℕ → ℕ → Option FillerSource → List ReadUnit
 fillers_by init start end None = []

@@ -11,6 +11,8 @@ const MOST_RENDITIONS: usize = 16;
 pub struct EncoderSigns {
     heard: [AtomicU64; MOST_RENDITIONS],
     claimed: [AtomicU64; MOST_RENDITIONS],
+    /// When a unit was ahead of the channel for the first time since every encoder is silent for too long; 0 if never.
+    lone_claim: AtomicU64,
 }
 
 /// The clock that nothing was noted by.
@@ -24,6 +26,7 @@ impl EncoderSigns {
         EncoderSigns {
             heard: never(),
             claimed: never(),
+            lone_claim: AtomicU64::new(0),
         }
     }
 
@@ -55,5 +58,30 @@ impl EncoderSigns {
             .get(rendition)
             .map_or(0, |claimed| claimed.load(Ordering::SeqCst));
         claimed > 0 && claimed >= self.last_heard_ms(rendition)
+    }
+
+    /// When a unit last arrived that wasn't ahead of the channel, of any rendition; 0 if never.
+    pub fn newest_heard_ms(&self) -> u64 {
+        let mut newest = 0;
+        for rendition in 0..MOST_RENDITIONS {
+            newest = self.last_heard_ms(rendition).max(newest);
+        }
+        newest
+    }
+
+    /// Whether encoders that are silent may be taken for away, at a unit that is ahead of the channel while every encoder is silent for
+    /// more than `wait_ms`: only if another such unit came at least `wait_ms` before. After an outage of all encoders the first one to
+    /// come back doesn't speak for the others, which may follow within a second.
+    pub fn is_lone_claim_due(&self, now_ms: u64, wait_ms: u64) -> bool {
+        let newest = self.newest_heard_ms();
+        if now_ms <= newest.saturating_add(wait_ms) {
+            return false;
+        }
+        let first = self.lone_claim.load(Ordering::SeqCst);
+        if first <= newest {
+            self.lone_claim.store(now_ms.max(1), Ordering::SeqCst);
+            return false;
+        }
+        now_ms.saturating_sub(first) >= wait_ms
     }
 }

@@ -209,20 +209,21 @@ pub fn fill_gap(
     make_fillers(alloc, init, source, recording.last_end(), start)
 }
 
-/// A filler from the end of a rendition for the given number of ticks. None if the rendition has no unit to make it of whose bytes are
+/// A filler of a rendition from `start` for the given number of ticks. None if the rendition has no unit to make it of whose bytes are
 /// kept, or mending can't write that unit again.
 #[tactic(auto, unfolding(crate::specs::MendedUnits::span_filler))]
 pub fn make_span_filler(
     alloc: Global,
     recording: &Recording,
+    start: u64,
     ticks: u64,
 ) -> Result<Option<ReadUnit>, AllocError>
-    ensures value { IfOk result (λ o. o ≡ span_filler recording.now ticks) }
+    ensures value { IfOk result (λ o. o ≡ span_filler recording.now start ticks) }
     ensures valid { IfOk result (λ o. IfSome o (λ u. IsUnit recording.now.init u.bytes u.facts)) }
 {
     let init = recording.init();
     let Some(source) = find_source(init, recording) else {
         return Ok(None);
     };
-    make_filler(alloc, init, source, recording.last_end(), ticks)
+    make_filler(alloc, init, source, start, ticks)
 }
