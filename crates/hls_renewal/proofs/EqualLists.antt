@@ -35,11 +35,11 @@ use Rattle.hls_renewal.specs.Renewals.{Renews, renewal_events, renewal_start}
 use Rattle.hls_renewal.proofs.RenewalFits.{renewal_fits}
 use Rattle.hls_renewal.proofs.RenewedLanes.{renewed_channels_are_handed_over}
 use Rattle.hls_renewal.proofs.RenewedRemovals.{removed_alike}
-use Rattle.hls_renewal.proofs.RenewedSources.{ended_alike, places_from_cut, same_lanes, since_count}
+use Rattle.hls_renewal.proofs.RenewedSources.{ended_alike, places_from_cut, renewed, same_lanes, since_count}
 
 -- ---- a renewed channel is in a state
 
-all_states : (s : State) (es : List (ℕ × Event)) → IsState s → AreFitting s es → IsState (replayed_state s es)
+pub all_states : (s : State) (es : List (ℕ × Event)) → IsState s → AreFitting s es → IsState (replayed_state s es)
 all_states s [] state fits = state
 all_states s (e ∷ es) state fits = all_states (next_state s e.0 e.1) es (next_is_state s e.0 e.1 state fits.0) fits.1
 
@@ -67,7 +67,7 @@ module _ (from_place : PlacesFromAPlaceAgree) (in_row : PlacesNeverGoBack) (from
       let cut = renews.cut in
       let old : List LiveSegment = segments_over (line_goal_of a.config) (sources a) in
       let new : List LiveSegment = segments_over (line_goal_of b.config) (sources b) in
-      let from = (places_from_cut a b renews state from_place in_row from_cut).3 in
+      let from = (places_from_cut a b cut (renewed a b renews state) state from_place in_row from_cut).3 in
       omega (
         arith,
         length-drop (line a).removed old,
@@ -86,7 +86,7 @@ module _ (from_place : PlacesFromAPlaceAgree) (in_row : PlacesNeverGoBack) (from
     begins = removed_alike a b renews;
     count = length-map (segments_of (line a)) (live_media_segment (live_layout a.config.epoch r l))
         ∙ sym (same_count a b renews state) ∙ sym (length-map (segments_of (line b)) (live_media_segment (live_layout b.config.epoch r m)));
-    ended = sym (ended_alike a b renews state (renewed_state a b renews state));
+    ended = sym (ended_alike a b (renews.cut) (renewed a b renews state) state (renewed_state a b renews state));
   }
 
 -- ---- so are their playlists
@@ -114,10 +114,10 @@ module _ (from_place : PlacesFromAPlaceAgree) (in_row : PlacesNeverGoBack) (from
       let v = unlisted b r there in
       (v.0 ∙ sym u.0, v.1 ∙ sym u.1)
   by_lane a b renews r None (Some m) state some at there =
-      let l = some_at (channel a).lanes r (omega (arith, slice_get_within (channel b).lanes r m there, same_lanes a b renews state)) in
+      let l = some_at (channel a).lanes r (omega (arith, slice_get_within (channel b).lanes r m there, same_lanes a b (renews.cut) (renewed a b renews state) state)) in
       absurd (let found = l.1 in cc)
   by_lane a b renews r (Some l) None state some at there =
-      let m = some_at (channel b).lanes r (omega (arith, slice_get_within (channel a).lanes r l at, same_lanes a b renews state)) in
+      let m = some_at (channel b).lanes r (omega (arith, slice_get_within (channel a).lanes r l at, same_lanes a b (renews.cut) (renewed a b renews state) state)) in
       absurd (let found = m.1 in cc)
   by_lane a b renews r (Some l) (Some m) state some at there =
       let cut = renews.cut in

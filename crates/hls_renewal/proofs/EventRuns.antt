@@ -35,7 +35,7 @@ not_equal r q less = elim (bool_cases (r == q)) [
   | inr differ ↦ differ
 ]
 
-not_equal_up : (r q : ℕ) → q < r → (r == q) ≡ false
+pub not_equal_up : (r q : ℕ) → q < r → (r == q) ≡ false
 not_equal_up r q less = elim (bool_cases (r == q)) [
   | inl same ↦ absurd (omega (arith, less, eqb-true r q same))
   | inr differ ↦ differ
@@ -105,7 +105,7 @@ module _ {X : Type 0} (after : ℕ → Event → X → X) (ignores : IgnoresOthe
   apart_end r q (Some true) x differ = ignores r (Finish q) x differ
   apart_end r q (Some false) x differ = refl
 
-  apart : (a : State) (r q n : ℕ) (x : X) → (r == q) ≡ false → run after r (rendition_from a q n) x ≡ x
+  pub apart : (a : State) (r q n : ℕ) (x : X) → (r == q) ≡ false → run after r (rendition_from a q n) x ≡ x
   apart a r q n x differ =
       run_append after r (media_from q (recording_of a q) n) (end_of q (finished_at a q)) x
       ∙ ap (λ y. run after r (end_of q (finished_at a q)) y) (apart_media r q n (recording_of a q) x differ)
@@ -120,7 +120,7 @@ module _ {X : Type 0} (after : ℕ → Event → X → X) (ignores : IgnoresOthe
       ∙ later_apart a r (suc q) spots x (omega (arith, less))
 
   -- so what counts are its own
-  own_events : (a : State) (r k q : ℕ) (spots : List Spot) (spot : Spot) (x : X) → r ≡ q + k → slice_get spots k ≡ Some spot
+  pub own_events : (a : State) (r k q : ℕ) (spots : List Spot) (spot : Spot) (x : X) → r ≡ q + k → slice_get spots k ≡ Some spot
       → run after r (renditions_from a q spots) x ≡ run after r (rendition_from a r spot.fragment) x
   own_events a r k q [] spot x is at = absurd (cc)
   own_events a r zero q (s ∷ spots) spot x is at =

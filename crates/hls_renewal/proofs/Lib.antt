@@ -16,3 +16,8 @@ pub mod RenewedSources
 pub mod RenewedRemovals
 pub mod EqualLists
 pub mod NeverBack
+pub mod SmallLanes
+pub mod EventCounts
+pub mod NewEvents
+pub mod LongLines
+pub mod NewSlides

@@ -184,7 +184,7 @@ end_of_state a r None = tt
 end_of_state a r (Some true) = (tt, tt)
 end_of_state a r (Some false) = tt
 
-renditions_of : (a : State) (r : ℕ) (spots : List Spot) → IsState a → AreOf a (renditions_from a r spots)
+pub renditions_of : (a : State) (r : ℕ) (spots : List Spot) → IsState a → AreOf a (renditions_from a r spots)
 renditions_of a r [] state = tt
 renditions_of a r (spot ∷ spots) state =
     of_append a (rendition_from a r spot.fragment) (renditions_from a (suc r) spots)

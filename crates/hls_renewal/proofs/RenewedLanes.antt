@@ -40,21 +40,21 @@ use Rattle.hls_renewal.proofs.LineCuts.{is_line_cut}
 -- ---- one lane at a time
 
 -- the effect of an event on rendition r
-abbrev lane_after : ℕ → Event → Lane → Lane
+abbrev pub lane_after : ℕ → Event → Lane → Lane
 lane_after r (Begin q init bytes) l = chosen (r == q) (with_begin init (length bytes) l) l
 lane_after r (Accept q f bytes) l = chosen (r == q) (with_facts f l) l
 lane_after r (Finish q) l = chosen (r == q) (with_finish l) l
 lane_after r (Slide count) l = l
 lane_after r (Trim q floor) l = chosen (r == q) (with_floor floor l) l
 
-ignores : IgnoresOthers lane_after
+pub ignores : IgnoresOthers lane_after
 ignores r (Begin q init bytes) l differ = ap (λ (b : Bool). chosen b (with_begin init (length bytes) l) l) differ
 ignores r (Accept q f bytes) l differ = ap (λ (b : Bool). chosen b (with_facts f l) l) differ
 ignores r (Finish q) l differ = ap (λ (b : Bool). chosen b (with_finish l) l) differ
 ignores r (Slide count) l differ = refl
 ignores r (Trim q floor) l differ = ap (λ (b : Bool). chosen b (with_floor floor l) l) differ
 
-abbrev lane_run : ℕ → List (ℕ × Event) → Lane → Lane
+abbrev pub lane_run : ℕ → List (ℕ × Event) → Lane → Lane
 lane_run r es l = run lane_after r es l
 
 one_set : (ch : Channel) (r q : ℕ) (l : Lane) (f : Lane → Lane) → slice_get ch.lanes r ≡ Some l → slice_get (with_lane ch q (f (lane ch q))).lanes r ≡ Some (chosen (r == q) (f l) l)
@@ -67,7 +67,7 @@ after_one ch (Finish q) r l at = one_set ch r q l with_finish at
 after_one ch (Slide count) r l at = at
 after_one ch (Trim q floor) r l at = one_set ch r q l (with_floor floor) at
 
-after_all : (s : State) (es : List (ℕ × Event)) (r : ℕ) (l : Lane) → AreNew s es → slice_get (channel s).lanes r ≡ Some l
+pub after_all : (s : State) (es : List (ℕ × Event)) (r : ℕ) (l : Lane) → AreNew s es → slice_get (channel s).lanes r ≡ Some l
     → slice_get (channel (replayed_state s es)).lanes r ≡ Some (lane_run r es l)
 after_all s [] r l new at = at
 after_all s (e ∷ es) r l new at =
@@ -88,7 +88,7 @@ config_after_all s (e ∷ es) = config_after_all (next_state s e.0 e.1) es ∙ c
 
 -- ---- its own events
 
-abbrev with_more : List Facts → Lane → Lane
+abbrev pub with_more : List Facts → Lane → Lane
 with_more fs l = record { init = l.init; size = l.size; facts = l.facts ++ fs; floor = l.floor; finished = l.finished }
 
 none_more : (l : Lane) → l ≡ with_more [] l
@@ -133,15 +133,20 @@ own_end r false l same = refl
 abbrev renewed_lane : RecordingData → ℕ → Bool → Lane
 renewed_lane rec n finished = ended finished (with_more (drop n rec.facts) (with_begin rec.init (length rec.head) no_lane))
 
+pub own_begun : (r n : ℕ) (rec : RecordingData) → AreKeptFrom rec n → n ≤ length rec.facts
+    → lane_run r (media_from r (Some rec) n) no_lane ≡ with_more (drop n rec.facts) (with_begin rec.init (length rec.head) no_lane)
+own_begun r n rec kept few =
+    let same : (r == r) ≡ true = eq-eqb r r refl in
+    let all : n + (length rec.facts - n) ≡ length rec.facts = omega (arith, few) in
+    ap (λ (b : Bool). lane_run r (units_from r rec n (length rec.facts - n)) (chosen b (with_begin rec.init (length rec.head) no_lane) no_lane)) same
+    ∙ own_units r rec n (length rec.facts - n) (with_begin rec.init (length rec.head) no_lane) same kept all
+
 own_media : (r n : ℕ) (rec : RecordingData) (finished : Bool) → AreKeptFrom rec n → n ≤ length rec.facts
     → lane_run r (media_from r (Some rec) n ++ end_of r (Some finished)) no_lane ≡ renewed_lane rec n finished
 own_media r n rec finished kept few =
-    let same : (r == r) ≡ true = eq-eqb r r refl in
-    let all : n + (length rec.facts - n) ≡ length rec.facts = omega (arith, few) in
     run_append lane_after r (media_from r (Some rec) n) (end_of r (Some finished)) no_lane
-    ∙ own_end r finished (lane_run r (media_from r (Some rec) n) no_lane) same
-    ∙ ap (λ (b : Bool). ended finished (lane_run r (units_from r rec n (length rec.facts - n)) (chosen b (with_begin rec.init (length rec.head) no_lane) no_lane))) same
-    ∙ ap (λ l. ended finished l) (own_units r rec n (length rec.facts - n) (with_begin rec.init (length rec.head) no_lane) same kept all)
+    ∙ own_end r finished (lane_run r (media_from r (Some rec) n) no_lane) (eq-eqb r r refl)
+    ∙ ap (λ l. ended finished l) (own_begun r n rec kept few)
 
 -- a rendition of the renewed channel is the old one from unit n on
 pub record IsLaneFrom (n : ℕ) (l m : Lane) : Type 0 where
@@ -229,6 +234,14 @@ not_begun : (i : Option InitData) (l : Lane) (h : HeldBytes) → recorded_from i
 not_begun None l h none = refl
 not_begun (Some init) l h none = absurd (cc)
 
+-- what hasn't begun hasn't ended
+pub bare_of : (a : State) (r : ℕ) (l : Lane) → IsState a → slice_get (channel a).lanes r ≡ Some l → recording_of a r ≡ None → l.finished ≡ false
+bare_of a r l state at found =
+    let beside = at_beside (channel a).lanes a.bytes r l state.counts_agree at in
+    let matches : MatchesBytes l beside.0 = state.fits r l beside.0 at beside.1 in
+    let none : l.init ≡ None = not_begun l.init l (held_bytes a r) (ap (λ (o : Option Lane). recorded_at o (held_bytes a r)) (sym at) ∙ found) in
+    (matches.none none).3
+
 bare_lane : (a : State) (r n : ℕ) (l : Lane) → IsState a → IsCutHere a r n l → recording_of a r ≡ None
     → IsLaneFrom n l (lane_run r (media_from r None n ++ end_of r (Some l.finished)) no_lane)
 bare_lane a r n l state here found =
@@ -250,7 +263,7 @@ by_recording : (a : State) (r n : ℕ) (l : Lane) (o : Option RecordingData) →
 by_recording a r n l None state here found = bare_lane a r n l state here found
 by_recording a r n l (Some rec) state here found = begun_lane a r n l rec state here found
 
-one_lane : (a : State) (r n : ℕ) (l : Lane) → IsState a → IsCutHere a r n l → IsLaneFrom n l (lane_run r (rendition_from a r n) no_lane)
+pub one_lane : (a : State) (r n : ℕ) (l : Lane) → IsState a → IsCutHere a r n l → IsLaneFrom n l (lane_run r (rendition_from a r n) no_lane)
 one_lane a r n l state here =
     let finished : finished_at a r ≡ Some l.finished = ap (λ (o : Option Lane). option_map (λ (x : Lane). x.finished) o) here.at in
     subst (λ (o : Option Bool). IsLaneFrom n l (lane_run r (media_from r (recording_of a r) n ++ end_of r o) no_lane)) (sym finished)
@@ -283,7 +296,7 @@ spot_of_cut a cut r l state is at =
     (slice_get-get_or (cut.place).spots r none there, record { at = at; low = omega (arith, low, floor); high = cut_within a cut r l is at })
 
 -- no rendition has begun in the opening state
-fresh_at : (a : State) (cut : LineCut) (r : ℕ) (l : Lane) → slice_get (channel a).lanes r ≡ Some l → slice_get (channel (renewal_start a cut)).lanes r ≡ Some no_lane
+pub fresh_at : (a : State) (cut : LineCut) (r : ℕ) (l : Lane) → slice_get (channel a).lanes r ≡ Some l → slice_get (channel (renewal_start a cut)).lanes r ≡ Some no_lane
 unfolding channel_from
 fresh_at a cut r l at =
     let within : r < length a.config.renditions = omega (arith, slice_get_within (channel a).lanes r l at, lanes_count a.config a.log) in

@@ -45,7 +45,7 @@ one_removal ch (Finish r) = refl
 one_removal ch (Slide count) = refl
 one_removal ch (Trim r floor) = refl
 
-all_removals : (s : State) (es : List (ℕ × Event)) → AreNew s es → (channel (replayed_state s es)).removed ≡ removed_run es (channel s).removed
+pub all_removals : (s : State) (es : List (ℕ × Event)) → AreNew s es → (channel (replayed_state s es)).removed ≡ removed_run es (channel s).removed
 all_removals s [] new = refl
 all_removals s (e ∷ es) new =
     let is : next_state s e.0 e.1 ≡ state_with_entry s e.0 e.1 = ap (λ (o : Outcome). state_by_outcome o (state_with_entry s e.0 e.1) s) new.0 in
@@ -78,7 +78,7 @@ by_end r None n = refl
 by_end r (Some true) n = refl
 by_end r (Some false) n = refl
 
-by_renditions : (a : State) (r : ℕ) (spots : List Spot) (n : ℕ) → removed_run (renditions_from a r spots) n ≡ n
+pub by_renditions : (a : State) (r : ℕ) (spots : List Spot) (n : ℕ) → removed_run (renditions_from a r spots) n ≡ n
 by_renditions a r [] n = refl
 by_renditions a r (spot ∷ spots) n =
     removed_append (rendition_from a r spot.fragment) (renditions_from a (suc r) spots) n
@@ -92,7 +92,7 @@ by_slide : (k n : ℕ) → removed_run (slide_by k) n ≡ n + k
 by_slide zero n = omega arith
 by_slide (suc k) n = refl
 
-none_removed : (a : State) (cut : LineCut) → (channel (renewal_start a cut)).removed ≡ 0
+pub none_removed : (a : State) (cut : LineCut) → (channel (renewal_start a cut)).removed ≡ 0
 unfolding channel_from
 none_removed a cut = refl
 
@@ -133,7 +133,7 @@ removed_in above n marks bound (segment ∷ rest) other c last few found =
           (sym (ap (λ (b : Bool). if b then Some made else cut_in above (suc n) more rest other) not) ∙ found)
     ]
 
-cut_removed : (s : State) (c : LineCut) → first_cut s ≡ Some c → c.segments ≤ (line s).removed
+pub cut_removed : (s : State) (c : LineCut) → first_cut s ≡ Some c → c.segments ≤ (line s).removed
 cut_removed s c found =
     let few = length-take (line s).removed (segments s) in
     removed_in (floors s) 0 0 (line s).removed (removed_segments s) (front_cut s) c

@@ -12,7 +12,7 @@ use Rattle.hls_check_tables.specs.Tables.{spot_in}
 use Rattle.hls_places_laws.specs.declared.place.Place.{Place}
 use Rattle.hls_places_laws.specs.Sources.{Source, source_at, first_facts, no_facts}
 use Rattle.hls_places_laws.specs.Places.{spots, place_of, common_at, has_ended, closing_places, places_of}
-use Rattle.hls_places_laws.specs.FromPlace.{KeepsPlaces, PlacesFromAPlaceAgree, PlacesNeverGoBack, place_since, source_since, sources_since}
+use Rattle.hls_places_laws.specs.FromPlace.{IsPlaceFrom, KeepsPlaces, PlacesFromAPlaceAgree, PlacesNeverGoBack, place_since, source_since, sources_since}
 use Rattle.hls_places_laws.specs.declared.line.live_segment.LiveSegment.{LiveSegment}
 use Rattle.hls_places_laws.specs.declared.line.segment_start.SegmentStart.{SegmentStart}
 use Rattle.hls_places_laws.specs.Line.Cuts.{line_of}
@@ -29,6 +29,7 @@ use Rattle.hls_core_laws.specs.Places.{floors, places, sources, tolerance_of}
 use Rattle.hls_core_laws.proofs.Callers.{IsOf, floors-count, lanes_count, some_at, source_of, sources_count, spots-count, states_are_timed}
 use Rattle.hls_playlists_laws.specs.Handovers.{unit_at as cut_unit}
 use Rattle.hls_playlists_laws.proofs.Callers.{closed-reached, whole}
+use Rattle.hls_renewal.specs.declared.line_cut.LineCut.{LineCut}
 use Rattle.hls_renewal.specs.Cuts.{IsLineCut}
 use Rattle.hls_renewal.specs.Renewals.{Renews, renewal_events, renewal_start}
 use Rattle.hls_renewal.proofs.EndedLines.{AreAtUnits, common_at_units, line_ends}
@@ -97,6 +98,9 @@ ended_since (c ∷ cut) (x ∷ xs) long before =
 
 -- ---- the renditions of a renewed channel
 
+abbrev pub AreFromCut : Place → List LiveSegment → Type 0
+AreFromCut cut segments = (k : ℕ) (x : LiveSegment) → slice_get segments k ≡ Some x → IsPlaceFrom cut x.from × IsPlaceFrom cut x.to
+
 same_sources : (xs ys : List Source) → length xs ≡ length ys → ((r : ℕ) → r < length xs → source_at xs r ≡ source_at ys r) → xs ≡ ys
 same_sources [] [] long each = refl
 same_sources [] (y ∷ ys) long each = absurd (omega (arith, long))
@@ -113,25 +117,32 @@ source_from x y l m n tolerance cut of_l of_m from number =
     let over : y.finished ≡ x.finished = of_m.finished ∙ from.finished ∙ sym of_l.finished in
     λ k. record { facts = facts k; tolerance = tolerances k; finished = over k }
 
-module _ (a b : State) (renews : Renews a b) (state : IsState a) where
-  pub renewed_config : without_base b.config ≡ without_base a.config
-  renewed_config = ap (λ (s : State). without_base s.config) renews.is ∙ ap without_base (config_after_all (renewal_start a (renews.cut)) (renewal_events a (renews.cut)))
+-- a channel continues another one at a cut: its renditions are those from the cut on
+pub record IsContinued (a b : State) (cut : LineCut) : Type 0 where
+  pub is_cut : IsLineCut a cut
+  pub config : without_base b.config ≡ without_base a.config
+  pub lanes : (r : ℕ) (l m : Lane) → slice_get (channel a).lanes r ≡ Some l → slice_get (channel b).lanes r ≡ Some m → IsLaneFrom (cut_unit cut.place r) l m
 
-  is_cut : IsLineCut a (renews.cut)
-  is_cut = is_line_cut a (renews.cut) state renews.first
+-- a renewed one does
+pub renewed : (a b : State) (renews : Renews a b) → IsState a → IsContinued a b (renews.cut)
+renewed a b renews state = record {
+  is_cut = is_line_cut a (renews.cut) state renews.first;
+  config = ap (λ (s : State). without_base s.config) renews.is ∙ ap without_base (config_after_all (renewal_start a (renews.cut)) (renewal_events a (renews.cut)));
+  lanes = renewed_lane_at a b renews state;
+}
 
-  spots_long : length ((renews.cut).place).spots ≡ length (sources a)
+module _ (a b : State) (cut : LineCut) (on : IsContinued a b cut) (state : IsState a) where
+  pub spots_long : length (cut.place).spots ≡ length (sources a)
   spots_long =
-      let stands = front-stands (line_goal_of a.config) (places a) (renews.cut).segments (renews.cut).place (is_cut.is_cut).front in
-      spots-count a state stands.number (renews.cut).place stands.there ∙ floors-count a
+      let stands = front-stands (line_goal_of a.config) (places a) cut.segments cut.place ((on.is_cut).is_cut).front in
+      spots-count a state stands.number cut.place stands.there ∙ floors-count a
 
   pub same_lanes : length (channel b).lanes ≡ length (channel a).lanes
-  same_lanes =
-      lanes_count b.config b.log ∙ ap (λ (c : ConfigData). length c.renditions) renewed_config ∙ sym (lanes_count a.config a.log)
+  same_lanes = lanes_count b.config b.log ∙ ap (λ (c : ConfigData). length c.renditions) on.config ∙ sym (lanes_count a.config a.log)
 
-  pub renewed_sources : sources b ≡ sources_since ((renews.cut).place).spots (sources a)
+  pub renewed_sources : sources b ≡ sources_since (cut.place).spots (sources a)
   renewed_sources =
-      let spots = ((renews.cut).place).spots in
+      let spots = (cut.place).spots in
       let long = since_long spots (sources a) spots_long in
       same_sources (sources b) (sources_since spots (sources a)) (omega (arith, sources_count b, same_lanes, sources_count a, long)) (λ r h.
       let inside : r < length (sources a) = omega (arith, h, sources_count b, same_lanes, sources_count a) in
@@ -139,37 +150,39 @@ module _ (a b : State) (renews : Renews a b) (state : IsState a) where
       let m = some_at (channel b).lanes r (omega (arith, h, sources_count b)) in
       let tolerance : ℕ = get_or (map tolerance_of a.config.renditions) r 0 in
       let of_m : IsOf (source_at (sources b) r) m.0 tolerance =
-      subst (λ (c : ConfigData). IsOf (source_at (sources b) r) m.0 (get_or (map tolerance_of c.renditions) r 0)) renewed_config (source_of b r m.0 m.1) in
-      source_from (source_at (sources a) r) (source_at (sources b) r) l.0 m.0 (cut_unit (renews.cut).place r) tolerance (spot_in spots r)
-      (source_of a r l.0 l.1) of_m (renewed_lane_at a b renews state r l.0 m.0 l.1 m.1) refl
+      subst (λ (c : ConfigData). IsOf (source_at (sources b) r) m.0 (get_or (map tolerance_of c.renditions) r 0)) on.config (source_of b r m.0 m.1) in
+      source_from (source_at (sources a) r) (source_at (sources b) r) l.0 m.0 (cut_unit cut.place r) tolerance (spot_in spots r)
+      (source_of a r l.0 l.1) of_m (on.lanes r l.0 m.0 l.1 m.1) refl
       ∙ sym (since_at spots (sources a) r spots_long inside))
 
   -- its line has ended if the old one has
   pub ended_alike : IsState b → has_line_ended (line b) ≡ has_line_ended (line a)
   ended_alike state_b =
-      let spots = ((renews.cut).place).spots in
-      let stands = front-stands (line_goal_of a.config) (places a) (renews.cut).segments (renews.cut).place (is_cut.is_cut).front in
-      let units = place_at_units (sources a) stands.number (renews.cut).place stands.there (is_cut.is_cut).not_ended in
+      let spots = (cut.place).spots in
+      let stands = front-stands (line_goal_of a.config) (places a) cut.segments cut.place ((on.is_cut).is_cut).front in
+      let units = place_at_units (sources a) stands.number cut.place stands.there ((on.is_cut).is_cut).not_ended in
       line_has_ended b state_b ∙ ap (λ (xs : List Source). list_all has_ended xs) renewed_sources
       ∙ ended_since spots (sources a) spots_long units.each ∙ sym (line_has_ended a state)
 
-  -- its places are the old ones from the cut on, and its segments too
+  -- its places are the old ones from the cut on, and its segments too, each from the cut on
   pub places_from_cut : PlacesFromAPlaceAgree → PlacesNeverGoBack → LineFromCutAgrees
-      → (k : ℕ) × (slice_get (places a) k ≡ Some (renews.cut).place) × (places b ≡ map (place_since ((renews.cut).place).spots) (drop k (places a)))
-      × (segments_over (line_goal_of b.config) (sources b) ≡ segments_since ((renews.cut).place).spots (drop (renews.cut).segments (segments_over (line_goal_of a.config) (sources a))))
+      → (k : ℕ) × (slice_get (places a) k ≡ Some cut.place) × (places b ≡ map (place_since (cut.place).spots) (drop k (places a)))
+      × (segments_over (line_goal_of b.config) (sources b) ≡ segments_since (cut.place).spots (drop cut.segments (segments_over (line_goal_of a.config) (sources a))))
+      × AreFromCut cut.place (drop cut.segments (segments_over (line_goal_of a.config) (sources a)))
   places_from_cut from_place in_row from_cut =
-      let spots = ((renews.cut).place).spots in
+      let spots = (cut.place).spots in
       let timed = states_are_timed a state in
-      let on : ContinuesFrom (line_goal_of a.config) (places a) (renews.cut).segments (renews.cut).place =
-      from_cut (line_goal_of a.config) (places a) (renews.cut).segments (renews.cut).place (in_row (sources a) timed) (is_cut.is_cut).within (is_cut.is_cut).front in
-      let kept : KeepsPlaces (sources a) on.number (renews.cut).place = from_place (sources a) timed on.number (renews.cut).place on.there (is_cut.is_cut).not_ended in
-      let mine : places b ≡ map (place_since spots) (drop on.number (places a)) = ap places_of renewed_sources ∙ kept.places in (
-        on.number,
-        on.there,
+      let here : ContinuesFrom (line_goal_of a.config) (places a) cut.segments cut.place =
+      from_cut (line_goal_of a.config) (places a) cut.segments cut.place (in_row (sources a) timed) ((on.is_cut).is_cut).within ((on.is_cut).is_cut).front in
+      let kept : KeepsPlaces (sources a) here.number cut.place = from_place (sources a) timed here.number cut.place here.there ((on.is_cut).is_cut).not_ended in
+      let mine : places b ≡ map (place_since spots) (drop here.number (places a)) = ap places_of renewed_sources ∙ kept.places in (
+        here.number,
+        here.there,
         mine,
-        ap (λ (c : ConfigData). (line_of (line_goal_of c) (places b)).segments) renewed_config
-            ∙ ap (λ (ps : List Place). (line_of (line_goal_of a.config) ps).segments) mine
-            ∙ on.segments,
+        ap (λ (c : ConfigData). (line_of (line_goal_of c) (places b)).segments) on.config
+        ∙ ap (λ (ps : List Place). (line_of (line_goal_of a.config) ps).segments) mine
+        ∙ here.segments,
+        here.after_cut,
       )
 
 -- the segments from a cut on are as many as there were

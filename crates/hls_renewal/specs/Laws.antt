@@ -3,6 +3,7 @@ use Rattle.std.specs.Prelude.{◌≡◌, ℕ, ◌+◌, ◌<◌, ◌≤◌, Some,
 use Rattle.hls_places_laws.specs.FromPlace.{place_since}
 use Rattle.hls_places_laws.specs.Line.Live.{segments_of}
 use Rattle.hls_m3u8.specs.Playlist.{Playlist}
+use Rattle.hls_core_laws.specs.Base.{IsBase}
 use Rattle.hls_core_laws.specs.Channel.{Lane}
 use Rattle.hls_core_laws.specs.State.{State, HeldBytes, channel}
 use Rattle.hls_core_laws.specs.IsState.{IsState}
@@ -15,7 +16,9 @@ use Rattle.hls_playlists_laws.specs.Handovers.{IsHandedOver, unit_at}
 use Rattle.hls_playlists_laws.specs.LaterList.{IsLater}
 use Rattle.hls_playlists_laws.specs.PathLaws.{SameUnitsFrom}
 use Rattle.hls_playlists_laws.specs.PathLists.{path_list_of}
-use Rattle.hls_renewal.specs.Renewals.{Renews}
+use Rattle.hls_renewal.specs.declared.line_cut.LineCut.{LineCut}
+use Rattle.hls_renewal.specs.Cuts.{first_cut}
+use Rattle.hls_renewal.specs.Renewals.{AreNew, Renews, renewal_events, renewal_start}
 
 -- a renewed channel continues the old one at the cut, in each rendition, with the base of the cut. So it takes over (`base_of_cut_takes_over`
 -- of hls_playlists_laws), and its playlists and paths are those of the old channel. Its version isn't lower
@@ -56,3 +59,8 @@ pub record NeverGoesBack (a b : State) : Type 0 where
 -- neither in a state that follows, as one that a journal restores does, nor in a renewed channel
 abbrev pub RunsAndVersionsNeverGoBack : Type 0
 RunsAndVersionsNeverGoBack = ((a b : State) → Follows a b → NeverGoesBack a b) × ((a b : State) → Renews a b → IsState a → NeverGoesBack a b)
+
+-- each event of a renewal is new in the state that it meets
+abbrev pub RenewalsAreNew : Type 0
+RenewalsAreNew = (a : State) (cut : LineCut) → IsState a → first_cut a ≡ Some cut → IsBase (base_of_cut a cut.segments cut.place) →
+    AreNew (renewal_start a cut) (renewal_events a cut)

@@ -17,7 +17,7 @@ use Rattle.hls_core.specs.Getters.{recording_of, finished_at}
 use Rattle.hls_playlists_laws.specs.CutBases.{base_of_cut}
 use Rattle.hls_renewal.specs.declared.line_cut.LineCut.{LineCut}
 use Rattle.hls_renewal.specs.declared.renewal.RenewFault.{RenewFault}
-use Rattle.hls_renewal.specs.declared.renewal.RenewFault.TheVariants.{Memory, NoCut, NoBase, NotNew}
+use Rattle.hls_renewal.specs.declared.renewal.RenewFault.TheVariants.{Memory, NoCut, NoBase}
 use Rattle.hls_renewal.specs.Cuts.{first_cut}
 
 -- the event of a unit that is kept, before others
@@ -79,7 +79,6 @@ abbrev pub IsRenewFault : State → RenewFault → Type 0
 IsRenewFault s Memory = Unit {0}
 IsRenewFault s NoCut = first_cut s ≡ None
 IsRenewFault s NoBase = (cut : LineCut) × (first_cut s ≡ Some cut) × IsNoBase (base_of_cut s cut.segments cut.place)
-IsRenewFault s NotNew = (cut : LineCut) × (first_cut s ≡ Some cut) × (AreNew (renewal_start s cut) (renewal_events s cut) → ⊥)
 
 -- the bytes of units before a number
 abbrev pub units_before : RecordingData → ℕ → ℕ

@@ -1,6 +1,6 @@
 //! Laws of renewals. Each function has no body: its contract is the law.
 
-ghost use Rattle.hls_renewal.specs.Laws.{RenewedChannelsAreHandedOver, RenewedListsAreEqual, RenewedListsContinue, RenewedPlacesAreThoseFromTheCut, RenewedUnitsHaveSameBytes, RunsAndVersionsNeverGoBack};
+ghost use Rattle.hls_renewal.specs.Laws.{RenewalsAreNew, RenewedChannelsAreHandedOver, RenewedListsAreEqual, RenewedListsContinue, RenewedPlacesAreThoseFromTheCut, RenewedUnitsHaveSameBytes, RunsAndVersionsNeverGoBack};
 
 use hls_places_laws::{line_from_cut_agrees, places_from_a_place_agree, places_never_go_back};
 use hls_playlists_laws::path_laws::{
@@ -55,3 +55,12 @@ pub fn renewed_units_have_same_bytes()
 pub fn runs_and_versions_never_go_back()
     ensures { RunsAndVersionsNeverGoBack }
 {}
+
+/// Each event of a renewal is new in the state that it meets, so a renewal isn't refused for one.
+pub fn renewals_are_new()
+    ensures { RenewalsAreNew }
+{
+    places_from_a_place_agree();
+    places_never_go_back();
+    line_from_cut_agrees();
+}

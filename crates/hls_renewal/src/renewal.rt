@@ -6,6 +6,7 @@ ghost use Rattle.hls_renewal.specs.declared.renewal.RenewFault.TheVariants as fa
 
 use crate::base::make_base;
 use crate::events::make_events;
+use crate::laws::renewals_are_new;
 use crate::line_cut::find_cut;
 use hls_core::replay::replay;
 use hls_core::snapshot::Snapshot;
@@ -21,8 +22,6 @@ pub enum RenewFault {
     NoCut,
     /// The new base would be above the limits of a base.
     NoBase,
-    /// The new log wouldn't take one of the events.
-    NotNew,
 }
 
 impl From<AllocError> for RenewFault {
@@ -47,11 +46,9 @@ pub fn renew(alloc: Global, snapshot: &Snapshot) -> Result<Arc<Snapshot>, RenewF
     let Some(base) = make_base(snapshot, &cut) else {
         return Err(RenewFault::NoBase);
     };
+    let _ = base.segments(); // the proof needs that the base is valid
+    renewals_are_new();
     let events = make_events(alloc, snapshot, &cut)?;
     let config = snapshot.config().share()?.with_base(base);
-    let next = replay(alloc, config, &events)?;
-    if next.version() != events.len() as u64 {
-        return Err(RenewFault::NotNew);
-    }
-    Ok(next)
+    Ok(replay(alloc, config, &events)?)
 }
