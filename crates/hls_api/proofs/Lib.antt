@@ -3,10 +3,10 @@ mod Parts
 mod Statuses
 mod NamedSpans
 mod PathAnswers
-mod Programmes
 mod Acting
 mod Examples
 mod JumpSteps
 mod Linking
 mod Requests
 pub mod Callers
+mod Programmes

@@ -11,17 +11,17 @@ use Rattle.hls_http.specs.Actions.{announced_len, action_by, sends_continue, sen
 use Rattle.hls_http.specs.ResponseText.{continue_text, is_success, out_of_memory_response}
 use Rattle.hls_catchup.specs.{declared.fault.JobFault.TheVariants.UnknownJob, Jobs.JobLine.served_version, Jobs.Shared.{HasCounted, HasRemoved}}
 use Rattle.hls_api.specs.Responses.{ResponseData, answer_text, fault_answer, finish_answer, media_answer, method_answer, metrics_answer, playlist_answer, status_answer, text_answer}
-use Rattle.hls_api.specs.Types.{Refusal, State, StreamFault, Done, BodyFraming, HttpFault, RequestAction, RangeSpec, Method, BodyEnd, DiscardEnd, JobFault, Job, IngestStop, CatchupQuery, QueryFault, Route, CatchupParams, IngestTarget, ServedChannel}
+use Rattle.hls_api.specs.Types.{Refusal, State, StreamFault, Done, BodyFraming, HttpFault, RequestAction, RangeSpec, Method, BodyEnd, DiscardEnd, JobFault, Job, IngestStop, CatchupQuery, ProgrammeFile, QueryFault, Route, CatchupParams, IngestTarget, ServedChannel}
 use Rattle.hls_api.specs.{declared.catchup_query.QueryFault.TheVariants.BadQuery, Faults.status_of, JobTable.{IsAddResult, IsGetResult}}
 use Rattle.hls_api.specs.Acts.{Act, ActsChangeNothing, RecordsAdd, RecordsLook, RecordsRemove, RecordsSubmit}
 use Rattle.hls_api.specs.{Ingest.{HandlesBody, Progress, IsBodyStop, counts_text}, Playlists.live_master_text}
 use Rattle.hls_metrics.specs.declared.measured.Measured.{Measured}
 use Rattle.hls_api.specs.Players.{init_answer, live_list_answer, path_master_answer, recent_list_answer, run_answer, segment_answer}
 use Rattle.hls_playlists.specs.declared.media_uris.MediaUris.TheVariants.{Paths, Ranges}
-use Rattle.hls_api.specs.Programmes.{ShowsProgramme}
+use Rattle.hls_api.specs.Programmes.{ShowsProgramme, invalid_answer}
 use Rattle.hls_api.specs.SinceLists.{since_answer}
 use Rattle.hls_api.specs.JobResponses.{added_answer, query_answer, file_answer, removed_answer, job_answer}
-use Rattle.hls_api.specs.Queries.{query_in, request_for, catchup_params_of}
+use Rattle.hls_api.specs.Queries.{programme_query_in, query_in, request_for, catchup_params_of}
 use Rattle.hls_api.specs.Routes.{allows, takes_ingest, is_to_head, path_of, query_of, removes_job, route_of}
 use Rattle.hls_http.specs.declared.fault.HttpFault.TheVariants as http
 use Rattle.hls_http.specs.declared.range_spec.RangeSpec.TheVariants as asks
@@ -70,6 +70,11 @@ FinishesRendition a r b answer = (done : Result Done Refusal) × RecordsSubmit a
 -- the reply shows a programme of the state that is seen
 abbrev pub RespondsWithSome : List Act → List Act → (State → ResponseData → Type 0) → ResponseData → Type 0
 RespondsWithSome a b Shows answer = (s : State) × RecordsLook a s b × Shows s answer
+
+-- a query that is invalid in any channel needs no look
+abbrev pub HandlesProgramme : Option CatchupQuery → ProgrammeFile → List Act → List Act → ResponseData → Type 0
+HandlesProgramme None file a b answer = (b ≡ a) × (answer ≡ invalid_answer)
+HandlesProgramme (Some query) file a b answer = RespondsWithSome a b (λ s shown. ShowsProgramme s query file shown) answer
 
 -- ---- acts on the table of jobs: one addition where a recording is asked for, one removal where a job is deleted, and no other
 
@@ -166,7 +171,7 @@ IsServedBy q (routes.InitSection run r) a answer b = RespondsWithState a b (λ s
 IsServedBy q (routes.Segment run r first last) a answer b =
     RespondsWithState a b (λ s. segment_answer s run r first last (range_for (is_to_head q.method) q.range)) answer
 IsServedBy q (routes.Since start file) a answer b = RespondsWithState a b (λ s. since_answer s start file) answer
-IsServedBy q (routes.Programme start stop file) a answer b = RespondsWithSome a b (λ s shown. ShowsProgramme s start stop file shown) answer
+IsServedBy q (routes.Programme start stop file) a answer b = HandlesProgramme (programme_query_in start stop q.query) file a b answer
 IsServedBy q routes.CatchUp a answer b = HandlesCatchup (query_in q.query) a b answer
 IsServedBy q routes.Status a answer b = (jobs : ℕ) × HasCounted jobs × RespondsWithState a b (λ s. status_answer s jobs) answer
 IsServedBy q routes.Metrics a answer b =

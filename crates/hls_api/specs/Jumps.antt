@@ -34,6 +34,14 @@ is_ahead_by fill_us (Some newest_us) start_us = is_ahead_of fill_us newest_us st
 abbrev pub is_ahead_in : ℕ → State → ℕ → Bool
 is_ahead_in fill_us s start_us = is_ahead_by fill_us (newest_end s (length s.config.renditions)) start_us
 
+-- how far after the newest end of all renditions a unit starts
+abbrev pub ahead_by : Option ℕ → ℕ → ℕ
+ahead_by None start_us = 0
+ahead_by (Some newest_us) start_us = start_us - newest_us
+
+abbrev pub ahead_in : State → ℕ → ℕ
+ahead_in s start_us = ahead_by (newest_end s (length s.config.renditions)) start_us
+
 -- ---- the other renditions
 
 abbrev pub is_unfinished : Option Bool → Bool

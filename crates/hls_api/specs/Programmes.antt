@@ -1,43 +1,58 @@
--- The replies to players of a programme by its address: the answer of the state that is seen, as a job has it.
-use Rattle.std.specs.Prelude.{◌≡◌, ℕ, nat_le, Bool, false, cond, List, Option, Some, None, Result, Ok, Err, slice_get}
+-- The replies to players of a programme by its address: of the texts that were made of a right reply to the same request, if the state that
+-- is seen has the programme.
+use Rattle.std.specs.Prelude.{◌≡◌, ◌⊎◌, ℕ, nat_le, Bool, false, cond, List, Option, Some, None, Result, Ok, Err, codes, slice_get}
 use Rattle.hls_http.specs.declared.fault.HttpFault.TheVariants as http
 use Rattle.hls_http.specs.declared.response_parts.CachePolicy.TheVariants.{Brief}
-use Rattle.hls_http.specs.declared.response_parts.Status.TheVariants.{Done, NotFound}
-use Rattle.hls_http.specs.ResponseText.{refusal_body}
+use Rattle.hls_http.specs.declared.response_parts.Status.TheVariants.{Done, NotFound, Unavailable}
+use Rattle.hls_http.specs.declared.response_parts.ExtraField.TheVariants as extras
+use Rattle.hls_http.specs.ResponseText.{extra_line, refusal_body}
 use Rattle.hls_places_laws.specs.declared.place.Place.{Place}
 use Rattle.hls_places_laws.specs.Order.{time_of}
 use Rattle.hls_core_laws.specs.Places.{places}
-use Rattle.hls_catchup.specs.declared.cut_result.CutResult.{CutResult}
-use Rattle.hls_catchup.specs.declared.cut_result.CutResult.TheVariants.{Cut, NoCut}
 use Rattle.hls_catchup.specs.declared.fault.CatchFault.{CatchFault}
 use Rattle.hls_catchup.specs.declared.fault.CatchFault.TheVariants.{BeforeRecording}
 use Rattle.hls_catchup.specs.FaultName.{catch_fault_name}
-use Rattle.hls_catchup.specs.Replies.{ReplyData}
-use Rattle.hls_catchup.specs.Jobs.Answers.{AnsweredData, IsRight}
+use Rattle.hls_catchup.specs.Replies.{IsAnswered, ReplyData}
+use Rattle.hls_catchup.specs.Requests.{IsTableFor}
+use Rattle.hls_check_tables.specs.Tables.{Table}
 use Rattle.hls_catchup.specs.Jobs.Files.{certificate_file}
-use Rattle.hls_jobs.specs.Programmes.{programme_list_file}
-use Rattle.hls_players_master.specs.Master.{players_master}
-use Rattle.hls_api.specs.Types.{CatchupParams, CatchupQuery, ProgrammeFile, QueryFault, Request, State, TimePoint}
+use Rattle.hls_jobs.specs.Programmes.{master_file, programme_list_file}
+use Rattle.hls_jobs.specs.Plans.{HasAddedPlan, HasFoundPlan}
+use Rattle.hls_jobs.specs.declared.plans.FoundPlan.{FoundPlan}
+use Rattle.hls_jobs.specs.declared.plans.FoundPlan.TheVariants.{Ready, Unfinished, Missing}
+use Rattle.hls_api.specs.Types.{CatchupParams, CatchupQuery, ProgrammeFile, QueryFault, Request, State}
 use Rattle.hls_api.specs.Queries.{catchup_params_of, request_for}
 use Rattle.hls_api.specs.JobResponses.{query_answer}
 use Rattle.hls_api.specs.Players.{with_policy}
-use Rattle.hls_api.specs.Responses.{ResponseData, fault_answer, list_answer, text_answer}
+use Rattle.hls_api.specs.Responses.{ResponseData, fault_answer, list_answer, text_answer, text_with}
+use Rattle.hls_api.specs.declared.programme_responses.ProgrammeStart.{ProgrammeStart}
+use Rattle.hls_api.specs.declared.programme_responses.ProgrammeStart.TheVariants.{Planned, Refused}
+use Rattle.hls_api.specs.declared.catchup_query.QueryFault.TheVariants.{BadQuery}
 use Rattle.hls_api.specs.declared.route.ProgrammeFile.TheVariants as programmes
 
--- ---- a programme that the state has
+-- ---- a programme that was planned
 
--- the master playlist: that of the channel's playlists by paths, whose playlists have the same names; none if there is no plan
-abbrev pub master_of_cut : State → CutResult → Option (List ℕ)
-master_of_cut s (Cut lists certificate) = players_master s false
-master_of_cut s (NoCut certificate) = None
-
--- if the programme has no plan, the certificate is the only file
+-- if it has no plan, the certificate is the only file
 abbrev pub programme_file_answer : ProgrammeFile → ReplyData → ResponseData
-programme_file_answer programmes.Master reply = list_answer (master_of_cut reply.state reply.cut_result)
+programme_file_answer programmes.Master reply = list_answer (master_file reply)
 programme_file_answer (programmes.List r) reply = list_answer (programme_list_file reply r)
 programme_file_answer programmes.Certificate reply = text_answer Done (certificate_file reply)
 
--- ---- a programme that it doesn't have
+-- caches keep it for a second
+abbrev pub programme_answer : ProgrammeFile → ReplyData → ResponseData
+programme_answer file reply = with_policy Brief (programme_file_answer file reply)
+
+-- .. and clients try again after a second
+abbrev pub busy_answer : ResponseData
+busy_answer = with_policy Brief (text_with (extra_line (extras.Retry 1)) Unavailable (refusal_body (codes "Busy")))
+
+-- what a table of plans has of it: its texts, or none yet
+abbrev pub ShowsFound : ProgrammeFile → FoundPlan → ResponseData → Type 0
+ShowsFound file (Ready texts) shown = (reply : ReplyData) → texts.value ≡ Some reply → shown ≡ programme_answer file reply
+ShowsFound file Unfinished shown = shown ≡ busy_answer
+ShowsFound file Missing shown = shown ≡ busy_answer
+
+-- ---- a programme that the state doesn't have
 
 -- the first place of all, kept or not, is at or before the time
 abbrev pub is_place_by : ℕ → Option Place → Bool
@@ -55,30 +70,37 @@ programme_refusal s request fault = text_answer NotFound (refusal_body (catch_fa
 
 -- ---- the reply
 
-abbrev pub programme_result : ProgrammeFile → State → Request → Result ReplyData CatchFault → ResponseData
-programme_result file s request (Ok reply) = programme_file_answer file reply
-programme_result file s request (Err fault) = programme_refusal s request fault
+-- the state has the programme
+abbrev pub HasProgramme : State → Request → Type 0
+HasProgramme s request = (t : Table) × IsTableFor s request (Ok t)
 
--- caches keep it for a second
-abbrev pub programme_answer : ProgrammeFile → AnsweredData → ResponseData
-programme_answer file a = with_policy Brief (programme_result file a.state a.request a.result)
-
--- that of the right answer of the state to the request
-pub record ShowsAnswer (s : State) (request : Request) (file : ProgrammeFile) (shown : ResponseData) : Type 0 where
-  pub answer : AnsweredData
-  pub right : IsRight answer
-  pub state : answer.state ≡ s
-  pub request_is : answer.request ≡ request
-  pub shown_is : shown ≡ programme_answer file answer
+-- the state has the programme of the request, or the reply refuses it
+abbrev pub StartsRequest : State → Request → ProgrammeStart → Type 0
+StartsRequest s request (Planned asked) = (asked ≡ request) × HasProgramme s request
+StartsRequest s request (Refused shown) =
+    (fault : CatchFault) × IsAnswered s request (Some (Err fault)) × (shown ≡ with_policy Brief (programme_refusal s request fault))
 
 -- a programme whose times the channel doesn't have is refused as a catch-up request is
-abbrev pub ShowsParams : State → ProgrammeFile → Result CatchupParams QueryFault → ResponseData → Type 0
-ShowsParams s file (Ok params) shown = ShowsAnswer s (request_for s params) file shown
-ShowsParams s file (Err fault) shown = shown ≡ with_policy Brief (query_answer fault)
+abbrev pub StartsParams : State → Result CatchupParams QueryFault → ProgrammeStart → Type 0
+StartsParams s (Ok params) start = StartsRequest s (request_for s params) start
+StartsParams s (Err fault) start = start ≡ Refused (with_policy Brief (query_answer fault))
 
--- the programme between two times, with the channel's own segment length
-abbrev pub programme_query : TimePoint → TimePoint → CatchupQuery
-programme_query start stop = record { start = start; stop = stop; preferred = None; charge = None }
+abbrev pub StartsProgramme : State → CatchupQuery → ProgrammeStart → Type 0
+StartsProgramme s query begun = StartsParams s (catchup_params_of s.config.epoch query) begun
 
-abbrev pub ShowsProgramme : State → TimePoint → TimePoint → ProgrammeFile → ResponseData → Type 0
-ShowsProgramme s start stop file shown = ShowsParams s file (catchup_params_of s.config.epoch (programme_query start stop)) shown
+-- a query that is invalid in any channel
+abbrev pub invalid_answer : ResponseData
+invalid_answer = with_policy Brief (query_answer BadQuery)
+
+-- the reply shows what a table of plans had for the request as it was added; or as it was found later, if it was unfinished then
+abbrev pub ShowsPlan : Request → ProgrammeFile → ResponseData → Type 0
+ShowsPlan request file shown =
+    ((found : FoundPlan) × HasAddedPlan request found × ShowsFound file found shown)
+    ⊎ (HasAddedPlan request Unfinished × ((found : FoundPlan) × HasFoundPlan request found × ShowsFound file found shown))
+
+abbrev pub ShowsStart : ProgrammeFile → ProgrammeStart → ResponseData → Type 0
+ShowsStart file (Planned request) shown = ShowsPlan request file shown
+ShowsStart file (Refused refusal) shown = shown ≡ refusal
+
+abbrev pub ShowsProgramme : State → CatchupQuery → ProgrammeFile → ResponseData → Type 0
+ShowsProgramme s query file shown = (begun : ProgrammeStart) × StartsProgramme s query begun × ShowsStart file begun shown

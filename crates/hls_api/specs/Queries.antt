@@ -32,7 +32,15 @@ query_of pairs =
     query_with (option_and_then time_point_of (first_pair_value (codes "from") pairs)) (option_and_then time_point_of (first_pair_value (codes "to") pairs))
     (optional_in (first_pair_value (codes "preferred") pairs)) (optional_in (first_pair_value (codes "charge") pairs))
 
+-- .. of a programme whose address says its start and its end
+abbrev pub programme_query_of : TimePoint → TimePoint → List (List ℕ × List ℕ) → Option CatchupQuery
+programme_query_of start stop pairs =
+    query_with (Some start) (Some stop) (optional_in (first_pair_value (codes "preferred") pairs)) (optional_in (first_pair_value (codes "charge") pairs))
+
 -- the query in a text
+abbrev pub programme_query_in : TimePoint → TimePoint → List ℕ → Option CatchupQuery
+programme_query_in start stop text = programme_query_of start stop (parse text)
+
 abbrev pub query_in : List ℕ → Option CatchupQuery
 query_in text = query_of (parse text)
 

@@ -2,7 +2,7 @@
 
 ghost use Rattle.std.specs.Prelude.{◌≡◌, ◌<◌, length};
 ghost use Rattle.hls_core.specs.Getters.{recording_of};
-ghost use Rattle.hls_api.specs.Jumps.{end_us_in, is_accepted_by, is_ahead_in, is_open_at, later as later_of, newest_end, other_presences, presence_of};
+ghost use Rattle.hls_api.specs.Jumps.{ahead_in, end_us_in, is_accepted_by, is_ahead_in, is_open_at, later as later_of, newest_end, other_presences, presence_of};
 
 use hls_core::snapshot::Snapshot;
 use hls_mend::{is_accepted_jump, is_ahead_of_channel};
@@ -18,7 +18,8 @@ pub struct EncoderReadings {
     pub now_us: u64,
     /// An encoder that wasn't heard for longer is away.
     pub wait_us: u64,
-    /// For each rendition, when its last unit arrived that wasn't ahead of the channel, recorded or not; 0 if none did.
+    /// For each rendition, when its last unit arrived that wasn't ahead of the channel, recorded or not, or a later moment if its encoder
+    /// may be about to come back; 0 if none did.
     pub heard_us: [u64; MOST_RENDITIONS],
     /// For each rendition, whether its last unit was refused as ahead of the channel.
     pub are_ahead: [bool; MOST_RENDITIONS],
@@ -76,6 +77,16 @@ pub fn is_ahead(fill_us: u32, snapshot: &Snapshot, start_us: u64) -> bool
     match find_newest_end(snapshot) {
         Some(newest) => is_ahead_of_channel(u64::from(fill_us), newest, start_us),
         None => false,
+    }
+}
+
+/// How far after the newest end of all renditions a unit starts, in microseconds; 0 if it doesn't.
+pub fn ahead_us(snapshot: &Snapshot, start_us: u64) -> u64
+    ensures { result ≡ ahead_in snapshot.now start_us }
+{
+    match find_newest_end(snapshot) {
+        Some(newest) => start_us.saturating_sub(newest),
+        None => 0,
     }
 }
 

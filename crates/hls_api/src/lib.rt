@@ -41,8 +41,10 @@ pub use playlist_responses::{
     live_master_response, live_playlist_response, path_master_response, recent_playlist_response,
     run_response,
 };
-pub use programme_responses::programme_response;
-pub use query::{make_request, read_query, resolve_query};
+pub use programme_responses::{
+    ProgrammeStart, found_plan_response, invalid_programme_response, start_programme,
+};
+pub use query::{make_request, read_programme_query, read_query, resolve_query};
 pub use response::{Response, into_send_buffer};
 pub use response_body::ResponseBody;
 pub use since_responses::since_response;

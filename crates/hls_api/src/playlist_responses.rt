@@ -69,7 +69,8 @@ pub(crate) fn with_list_policy(response: Response, uris: MediaUris) -> Response
     }
 }
 
-/// The live playlist by paths of a rendition that shows so many microseconds; 404 before a segment was closed. It isn't cached: it is short.
+/// The live playlist by paths of a rendition, which shows at least `us` microseconds; 404 before the first segment is closed. It is short,
+/// so its text isn't kept for the next request.
 pub fn recent_playlist_response(
     alloc: Global,
     snapshot: Arc<Snapshot>,

@@ -1,50 +1,93 @@
-//! Responses with a programme by its address: its playlists and its certificate, of the answer of one snapshot.
+//! Responses with a programme by its address: its playlists and its certificate, of the texts that a planner made.
 
-ghost use Rattle.std.specs.Prelude.{◌≡◌, IfOk, option_map};
+ghost use Rattle.std.specs.Prelude.{◌≡◌, Err, IfOk, MatchOption, Some, option_map};
+ghost use Rattle.std.specs.Option.{option_copied};
+ghost use Rattle.hls_catchup.specs.Replies.{IsAnswered, ReplyData};
 ghost use Rattle.hls_api.specs.Programmes as spec;
 
 use crate::catchup_params::CatchupParams;
-use crate::catchup_query::{CatchupQuery, QueryFault, TimePoint};
-use crate::job_responses::{certificate_response, query_response};
+use crate::catchup_query::{CatchupQuery, QueryFault};
+use crate::job_responses::query_response;
 use crate::playlist_responses::optional_playlist_response;
 use crate::query::{make_request, resolve_query};
 use crate::response::Response;
 use crate::route::ProgrammeFile;
-use crate::text_responses::{fault_response, refusal_response};
-use hls_catchup::{CatchFault, CutResult, JobAnswer, Reply, Request};
+use crate::text_responses::{fault_response, refusal_response, text_response};
+use hls_catchup::{CatchFault, Request, find_programme};
 use hls_core::snapshot::Snapshot;
 use hls_http::fault::HttpFault;
-use hls_http::response_parts::{CachePolicy, Status};
-use hls_jobs::{answer_request, programme_list_text};
+use hls_http::refusal_body;
+use hls_http::response_parts::{CachePolicy, ExtraField, Status};
+use hls_jobs::{FoundPlan, ProgrammeTexts};
 use hls_places::time_of;
-use hls_players_master::players_master;
 use std::alloc::{AllocError, Global};
-use std::sync::Arc;
 
-/// The text of a programme's master playlist; `None` if it has no plan.
-fn master_text(alloc: Global, reply: &Reply) -> Result<Option<Vec<u8>>, AllocError>
-    ensures { IfOk result (λ text. option_map (λ t. t.items) text ≡ spec.master_of_cut reply.now.state reply.now.cut_result) }
+/// What a request for a programme comes to in a snapshot.
+#[derive(Drop)]
+pub enum ProgrammeStart {
+    /// The snapshot has the programme of this request.
+    Planned(Request),
+    /// It doesn't: the response says why.
+    Refused(Response),
+}
+
+/// Copies a text that may be missing.
+fn copy_text(alloc: Global, text: Option<&[u8]>) -> Result<Option<Vec<u8>>, AllocError>
+    ensures { IfOk result (λ copy. option_map (λ t. t.items) copy ≡ option_copied text.entry) }
 {
-    match reply.cut_result() {
-        CutResult::Cut { .. } => players_master(alloc, reply.snapshot(), false),
-        CutResult::NoCut { .. } => Ok(None),
+    match text {
+        Some(text) => Ok(Some(Vec::from_slice(alloc, text)?)),
+        None => Ok(None),
     }
 }
 
 /// A file of a programme: a playlist, which is 404 if there is no plan, or the certificate.
 fn programme_file_response(
     alloc: Global,
-    reply: &Arc<Reply>,
+    texts: &ProgrammeTexts,
     file: ProgrammeFile,
 ) -> Result<Response, AllocError>
-    ensures { IfOk result (λ a. a ≡ spec.programme_file_answer file reply.now.value) }
+    ensures { (reply : ReplyData) → texts.now ≡ Some reply → IfOk result (λ a. a ≡ spec.programme_file_answer file reply) }
 {
     match file {
-        ProgrammeFile::Master => optional_playlist_response(alloc, master_text(alloc, reply)?),
-        ProgrammeFile::List(rendition) => {
-            optional_playlist_response(alloc, programme_list_text(alloc, reply, rendition)?)
+        ProgrammeFile::Master => {
+            let text = copy_text(alloc, texts.master())?;
+            optional_playlist_response(alloc, text)
         }
-        ProgrammeFile::Certificate => certificate_response(alloc, Arc::try_clone(reply)?),
+        ProgrammeFile::List(rendition) => {
+            let text = copy_text(alloc, texts.list(rendition))?;
+            optional_playlist_response(alloc, text)
+        }
+        ProgrammeFile::Certificate => {
+            let text = Vec::from_slice(alloc, texts.certificate())?;
+            Ok(text_response(Status::Done, text))
+        }
+    }
+}
+
+/// The response while a programme isn't planned.
+fn busy_response(alloc: Global) -> Result<Response, AllocError>
+    ensures { IfOk result (λ a. a ≡ spec.busy_answer) }
+{
+    let body = refusal_body(alloc, "Busy")?;
+    let busy = Response::from_text(Status::Unavailable, ExtraField::Retry(1), body);
+    Ok(busy.with_policy(CachePolicy::Brief))
+}
+
+/// The response with a file of a programme, as a table of plans has it: 503 if there are no texts yet.
+pub fn found_plan_response(
+    alloc: Global,
+    found: &FoundPlan,
+    file: ProgrammeFile,
+) -> Result<Response, AllocError>
+    ensures { IfOk result (λ a. spec.ShowsFound file found.now a) }
+{
+    match found {
+        FoundPlan::Ready(texts) => {
+            let made = programme_file_response(alloc, texts, file)?;
+            Ok(made.with_policy(CachePolicy::Brief))
+        }
+        FoundPlan::Unfinished | FoundPlan::Missing => busy_response(alloc),
     }
 }
 
@@ -87,74 +130,72 @@ fn programme_refusal_response(
     }
 }
 
-/// A file of a programme, of an answer to its request.
-fn answer_response(
-    alloc: Global,
-    answer: &JobAnswer,
-    file: ProgrammeFile,
-) -> Result<Response, AllocError>
-    ensures { IfOk result (λ a. a ≡ spec.programme_answer file answer.now) }
+/// Returns why a snapshot refuses a request; `None` if it has the programme, whether that has a plan or not. Plans nothing, and copies no
+/// place.
+fn request_fault(snapshot: &Snapshot, request: Request) -> Result<Option<CatchFault>, AllocError>
+    ensures { IfOk result (λ found. MatchOption found (spec.HasProgramme snapshot.now request) (λ fault. IsAnswered snapshot.now request (Some (Err fault)))) }
 {
-    let made = match answer.result() {
-        Ok(reply) => programme_file_response(alloc, reply, file)?,
-        Err(fault) => {
-            programme_refusal_response(alloc, answer.snapshot(), answer.request(), fault)?
-        }
-    };
-    Ok(made.with_policy(CachePolicy::Brief))
-}
-
-/// Answers a request from a snapshot, and returns a file of the programme.
-fn requested_response(
-    alloc: Global,
-    snapshot: Arc<Snapshot>,
-    request: Request,
-    file: ProgrammeFile,
-) -> Result<Response, AllocError>
-    ensures { IfOk result (λ shown. spec.ShowsAnswer snapshot.value request file shown) }
-{
-    let answer = answer_request(alloc, snapshot, request)?;
-    let _ = answer.request(); // the proof needs that the answer is right
-    answer_response(alloc, &answer, file)
-}
-
-/// A file of the programme that was asked for, if the channel has its times.
-fn resolved_response(
-    alloc: Global,
-    snapshot: Arc<Snapshot>,
-    resolved: Result<CatchupParams, QueryFault>,
-    file: ProgrammeFile,
-) -> Result<Response, AllocError>
-    ensures { IfOk result (λ shown. spec.ShowsParams snapshot.value file resolved shown) }
-{
-    match resolved {
-        Ok(params) => {
-            let request = make_request(&snapshot, params);
-            requested_response(alloc, snapshot, request, file)
-        }
-        Err(fault) => Ok(query_response(alloc, fault)?.with_policy(CachePolicy::Brief)),
+    match find_programme(snapshot, request) {
+        Ok(_) => Ok(None),
+        Err(CatchFault::Memory) => Err(AllocError),
+        Err(fault) => Ok(Some(fault)),
     }
 }
 
-/// A file of the programme between two times, as a snapshot has it, cut near the channel's own segment length: a playlist, whose
-/// segments are paths of the channel's recordings, or the certificate. 410 if the programme's beginning is trimmed, 404 with the
-/// refusal's name if there is no such programme, 404 for a playlist if it has no plan, and 400 for an instant that the channel doesn't
-/// have. Plans the programme.
-pub fn programme_response(
+/// Returns the request, if a snapshot has its programme, or else the response that refuses it.
+fn start_request(
     alloc: Global,
-    snapshot: Arc<Snapshot>,
-    start: TimePoint,
-    stop: TimePoint,
-    file: ProgrammeFile,
-) -> Result<Response, AllocError>
-    ensures { IfOk result (λ shown. spec.ShowsProgramme snapshot.value start stop file shown) }
+    snapshot: &Snapshot,
+    request: Request,
+) -> Result<ProgrammeStart, AllocError>
+    ensures { IfOk result (λ start. spec.StartsRequest snapshot.now request start) }
 {
-    let query = CatchupQuery {
-        start,
-        stop,
-        preferred: None,
-        charge: None,
-    };
+    match request_fault(snapshot, request)? {
+        None => Ok(ProgrammeStart::Planned(request)),
+        Some(fault) => {
+            let made = programme_refusal_response(alloc, snapshot, request, fault)?;
+            Ok(ProgrammeStart::Refused(made.with_policy(CachePolicy::Brief)))
+        }
+    }
+}
+
+/// Returns the request by what a client asks for, if the channel has its times and a snapshot its programme, or else the response that
+/// refuses it.
+fn start_resolved(
+    alloc: Global,
+    snapshot: &Snapshot,
+    resolved: Result<CatchupParams, QueryFault>,
+) -> Result<ProgrammeStart, AllocError>
+    ensures { IfOk result (λ start. spec.StartsParams snapshot.now resolved start) }
+{
+    match resolved {
+        Ok(params) => {
+            let request = make_request(snapshot, params);
+            start_request(alloc, snapshot, request)
+        }
+        Err(fault) => {
+            let made = query_response(alloc, fault)?;
+            Ok(ProgrammeStart::Refused(made.with_policy(CachePolicy::Brief)))
+        }
+    }
+}
+
+/// Returns the request of a query, if a snapshot has its programme. Otherwise the response is 410 if the programme's beginning is trimmed,
+/// 404 with the refusal's name if there is no such programme, and 400 for an instant that the channel doesn't have. Plans nothing.
+pub fn start_programme(
+    alloc: Global,
+    snapshot: &Snapshot,
+    query: CatchupQuery,
+) -> Result<ProgrammeStart, AllocError>
+    ensures { IfOk result (λ begun. spec.StartsProgramme snapshot.now query begun) }
+{
     let resolved = resolve_query(snapshot.config().epoch(), query);
-    resolved_response(alloc, snapshot, resolved, file)
+    start_resolved(alloc, snapshot, resolved)
+}
+
+/// The response to a query that is invalid in any channel.
+pub fn invalid_programme_response(alloc: Global) -> Result<Response, AllocError>
+    ensures { IfOk result (λ a. a ≡ spec.invalid_answer) }
+{
+    Ok(query_response(alloc, QueryFault::BadQuery)?.with_policy(CachePolicy::Brief))
 }

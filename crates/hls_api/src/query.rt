@@ -2,7 +2,7 @@
 
 ghost use Rattle.std.specs.Prelude.{◌≡◌, ◌-ℤ◌, IfOk, map, option_copied};
 ghost use Rattle.hls_http.specs.Query.{pair_bytes};
-ghost use Rattle.hls_api.specs.Queries.{from_epoch, time_point_of, optional_in, query_in, query_of, time_of};
+ghost use Rattle.hls_api.specs.Queries.{from_epoch, time_point_of, optional_in, programme_query_in, programme_query_of, query_in, query_of, time_of};
 ghost use Rattle.hls_api.specs.Queries as spec;
 
 use crate::catchup_params::CatchupParams;
@@ -54,6 +54,35 @@ pub fn read_query(alloc: Global, query: &[u8]) -> Result<Option<CatchupQuery>, A
 {
     let pairs = parse_query(alloc, query)?;
     Ok(read_pairs(&pairs))
+}
+
+/// Reads the pairs of a programme's query.
+fn read_programme_pairs(
+    start: TimePoint,
+    stop: TimePoint,
+    pairs: &[(Vec<u8>, Vec<u8>)],
+) -> Option<CatchupQuery>
+    ensures { result ≡ programme_query_of start stop (map pair_bytes pairs.now) }
+{
+    Some(CatchupQuery {
+        start,
+        stop,
+        preferred: parse_optional_number(find_query_value(pairs, b"preferred"))?,
+        charge: parse_optional_number(find_query_value(pairs, b"charge"))?,
+    })
+}
+
+/// Parses the query of a programme whose address says its start and its end: optionally `preferred` and `charge`, as `read_query` does.
+pub fn read_programme_query(
+    alloc: Global,
+    start: TimePoint,
+    stop: TimePoint,
+    query: &[u8],
+) -> Result<Option<CatchupQuery>, AllocError>
+    ensures { IfOk result (λ said. said ≡ programme_query_in start stop query.now) }
+{
+    let pairs = parse_query(alloc, query)?;
+    Ok(read_programme_pairs(start, stop, &pairs))
 }
 
 /// Returns how long after the epoch an instant is, in microseconds.

@@ -19,11 +19,9 @@ impl Display for RoutePath {
             Some(Route::Media(n)) => write!(f, "/media/{n}.mp4"),
             Some(Route::CatchUp) => f.write_str("/catchup"),
             Some(Route::Job(id)) => write!(f, "/job/{id}"),
-            Some(Route::JobFile(id, JobFile::Master)) => write!(f, "/job/{id}/master.m3u8"),
-            Some(Route::JobFile(id, JobFile::List(n))) => write!(f, "/job/{id}/{n}.m3u8"),
-            Some(Route::JobFile(id, JobFile::Media(n))) => write!(f, "/job/{id}/{n}.mp4"),
-            Some(Route::JobFile(id, JobFile::Certificate)) => {
-                write!(f, "/job/{id}/certificate.txt")
+            Some(Route::JobFile(id, file)) => {
+                write!(f, "/job/{id}/")?;
+                write_job_file(f, file)
             }
             Some(Route::Status) => f.write_str("/status"),
             Some(Route::Metrics) => f.write_str("/metrics"),
@@ -60,6 +58,16 @@ fn write_time<W: Write>(f: &mut Formatter<W>, time: TimePoint) -> fmt::Result {
     match time {
         TimePoint::Time(us) => write!(f, "{us}/"),
         TimePoint::Instant(us) => write!(f, "@{us}/"),
+    }
+}
+
+/// Writes the name of a job's file.
+fn write_job_file<W: Write>(f: &mut Formatter<W>, file: JobFile) -> fmt::Result {
+    match file {
+        JobFile::Master => f.write_str("master.m3u8"),
+        JobFile::List(n) => write!(f, "{n}.m3u8"),
+        JobFile::Media(n) => write!(f, "{n}.mp4"),
+        JobFile::Certificate => f.write_str("certificate.txt"),
     }
 }
 

@@ -46,8 +46,7 @@ fn served_removed(snapshot: &Snapshot) -> u64
 }
 
 /// The status of a channel with `jobs` jobs: five lines with the numbers of log entries, places with no trimmed fragment, segments of
-/// the live line, segments that slid out, and jobs. Log entries and segments
-/// that precede this process count.
+/// the live line, segments that slid out, and jobs. Log entries and segments that precede this process count.
 pub fn status_response(
     alloc: Global,
     snapshot: &Snapshot,

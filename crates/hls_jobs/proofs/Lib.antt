@@ -5,6 +5,9 @@ mod Uses
 mod Unused
 mod Keeps
 mod Lists
+mod ListTexts
+mod KeptTexts
+mod PlanCalls
 mod CertificateTexts
-pub mod ProgrammeTexts
+pub mod PathTexts
 mod ProgrammesStay

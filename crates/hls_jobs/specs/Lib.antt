@@ -1,5 +1,7 @@
 pub mod ProgrammeLaws
 pub mod Programmes
+pub mod ProgrammeTexts
+pub mod Plans
 pub mod Rows
 pub mod LastUses
 pub mod Model

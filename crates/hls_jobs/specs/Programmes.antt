@@ -1,5 +1,5 @@
 -- The playlists of a programme by its address: those of a job's answer, by paths of the channel's recordings.
-use Rattle.std.specs.Prelude.{ℕ, ◌+◌, ◌<◌, ◌^◌, List, ◌++◌, map, codes, Option, Some, None, option_map, slice_get, ⊤}
+use Rattle.std.specs.Prelude.{ℕ, ◌+◌, ◌<◌, ◌^◌, false, List, ◌++◌, length, map, codes, Option, Some, None, option_map, slice_get, ⊤}
 use Rattle.hls_record.specs.RecordingData.{RecordingData}
 use Rattle.hls_check_tables.specs.Tables.{Table}
 use Rattle.hls_core_laws.specs.Base.{BaseData, bytes_before_base, run_text}
@@ -14,6 +14,7 @@ use Rattle.hls_playlists_laws.specs.JobResource.{bytes_between}
 use Rattle.hls_playlists_laws.specs.JoinedLists.{shifted_segment}
 use Rattle.hls_playlists_laws.specs.PathLists.{init_in, media_folder, segment_in}
 use Rattle.hls_playlists_laws.specs.SegmentLaws.{first_fragment}
+use Rattle.hls_players_master.specs.Master.{players_master}
 use Rattle.hls_catchup.specs.declared.cut_result.CutResult.{CutResult}
 use Rattle.hls_catchup.specs.declared.cut_result.CutResult.TheVariants.{Cut, NoCut}
 use Rattle.hls_catchup.specs.Replies.{ReplyData}
@@ -68,6 +69,22 @@ programme_list_in s (NoCut certificate) r = None
 
 abbrev pub programme_list_file : ReplyData → ℕ → Option (List ℕ)
 programme_list_file reply r = programme_list_in reply.state reply.cut_result r
+
+-- the master playlist: that of the channel's playlists by paths, whose playlists have the same names; none if there is no plan
+abbrev pub master_in : State → CutResult → Option (List ℕ)
+master_in s (Cut lists certificate) = players_master s false
+master_in s (NoCut certificate) = None
+
+abbrev pub master_file : ReplyData → Option (List ℕ)
+master_file reply = master_in reply.state reply.cut_result
+
+-- how many playlists there are
+abbrev pub list_count_in : CutResult → ℕ
+list_count_in (Cut lists certificate) = length lists.items
+list_count_in (NoCut certificate) = 0
+
+abbrev pub list_count : ReplyData → ℕ
+list_count reply = list_count_in reply.cut_result
 
 -- its range, further by no more than a recording and what may precede it, has a path
 abbrev pub HasPath : Option ByteRange → Type 0

@@ -2,7 +2,8 @@
 //! from the job alone: its line, its certificate, and its playlists.
 //!
 //! A job's answer is right for the snapshot and the request that it holds: its type guarantees that, inside the lock and outside.
-//! `CertificateWriter` makes a text in parts, between which other connections get their turn.
+//! `CertificateWriter` makes a text in parts, between which other connections get their turn. Programmes by address are planned by the
+//! same loops, once each, and `ProgrammeTexts` are kept of them.
 #![tactic(auto)]
 
 mod certificate_writer;
@@ -12,7 +13,9 @@ mod job_line;
 mod job_run;
 mod last_uses;
 mod laws;
+mod plans;
 mod programme_files;
+mod programme_texts;
 mod rows;
 mod shared;
 mod table;
@@ -25,6 +28,8 @@ pub use job_line::{served_version, write_job_line};
 pub use job_run::{answer_request, run_job};
 pub use last_uses::{JobAge, LastUse};
 pub use laws::programmes_stay;
+pub use plans::FoundPlan;
 pub use programme_files::programme_list_text;
+pub use programme_texts::{ProgrammeTexts, plan_now};
 pub use shared::Jobs;
 pub use table::JobTable;

@@ -1,21 +1,33 @@
-//! The job table behind a lock, with a condition variable for loops that wait for work.
+//! The job table and the plans of programmes behind a lock, with a condition variable for loops that wait for work.
 
-ghost use Rattle.std.specs.Prelude.{◌≡◌, ◌⊎◌, IfOk, IfSome, true, false};
+ghost use Rattle.std.specs.Prelude.{◌≡◌, All, IfOk, IfSome, None, true, false};
 ghost use Rattle.hls_catchup.specs.Jobs.Changes.{Finishes, Gets, Removes};
 ghost use Rattle.hls_catchup.specs.Jobs.Tables.{IsJobTable};
 ghost use Rattle.hls_jobs.specs.LastUses.{RemovesUnused};
 ghost use Rattle.hls_jobs.specs.Model.{without_returned};
+ghost use Rattle.hls_jobs.specs.Plans.{HasAddedPlan, HasFoundPlan, is_waiting_plan, job_in};
 ghost use Rattle.hls_jobs.specs.Rows.{HasWaiting};
 ghost use Rattle.hls_catchup.specs.Jobs.States.{IsRightJob};
 ghost use Rattle.hls_catchup.specs.Jobs.Shared.{HasAdded, HasCounted, HasFinished, HasGot, HasRemoved, HasTaken};
 
 use crate::last_uses::{JobAge, LastUse, note_use, remove_use};
+use crate::plans::{FoundPlan, PlanTable, PlanWork};
+use crate::programme_texts::ProgrammeTexts;
 use crate::table::{JOB_LIMIT, JobError, JobTable};
 use hls_catchup::{Finished, Job, JobFault, JobRow, Request, Work};
 use hls_core::snapshot::Snapshot;
 use std::alloc::{AllocError, Global};
 use std::sync::atomic::{AtomicU64, Ordering};
 use std::sync::{Arc, Condvar, Mutex, Wait};
+
+/// What a loop does next.
+#[derive(Drop)]
+pub(crate) enum NextWork {
+    /// Runs a job.
+    Job(Work),
+    /// Plans a programme.
+    Plan(PlanWork),
+}
 
 /// The time between two removals of unused jobs, in milliseconds.
 const SWEEP_MS: u64 = 1000;
@@ -26,6 +38,7 @@ struct JobsInner {
     table: JobTable,
     /// When each job was used last.
     uses: Vec<LastUse>,
+    plans: PlanTable,
     closed: bool,
 }
 
@@ -78,17 +91,37 @@ impl JobsInner {
         Some(row)
     }
 
-    /// Whether a loop has to wait: no job waits, and the table isn't closed.
+    /// Whether a loop has to wait: no job and no plan waits, and the table isn't closed.
     fn lacks_work(&self) -> bool
-        ensures yes { result ≡ true → (self.now.closed ≡ false) × HasWaiting self.now.table.rows false }
-        ensures no { result ≡ false → (self.now.closed ≡ true) ⊎ HasWaiting self.now.table.rows true }
+        ensures jobs { result ≡ true → (self.now.closed ≡ false) × HasWaiting self.now.table.rows false }
+        ensures plans { result ≡ true → All (λ row. is_waiting_plan row ≡ false) self.now.plans.plans.items }
     {
-        !self.closed && !self.table.has_work()
+        !self.closed && !self.table.has_work() && !self.plans.has_work()
+    }
+
+    /// Takes the job that was added first, or if none waits the plan that was.
+    fn take_next(&mut self) -> Option<NextWork>
+        ensures { HasTaken (job_in result) }
+    {
+        match self.table.take_work() {
+            Some(work) => Some(NextWork::Job(work)),
+            None => self.take_plan(),
+        }
+    }
+
+    /// Takes the plan that was added first, if one waits.
+    fn take_plan(&mut self) -> Option<NextWork>
+        ensures { job_in result ≡ None }
+    {
+        match self.plans.take_work() {
+            Some(work) => Some(NextWork::Plan(work)),
+            None => None,
+        }
     }
 }
 
-/// A job table that threads share. Each call holds the lock only while it works on the table: nothing is planned, written or dropped
-/// under it. A guard lives to the end of its statement, so what a call returns is dropped after it.
+/// A job table, and plans of programmes, that threads share. Each call holds the lock only while it works on the table: nothing is planned, written or dropped
+/// under it, except texts of programmes that weren't used for longest. A guard lives to the end of its statement, so what a call returns is dropped after it.
 #[derive(Drop)]
 pub struct Jobs {
     inner: Mutex<JobsInner>,
@@ -102,20 +135,22 @@ pub struct Jobs {
 impl Jobs {
     /// Creates an empty table. An allocation failure is the only error.
     pub fn new(alloc: Global) -> Result<Jobs, AllocError> {
-        Jobs::with_table(alloc, JobTable::new(alloc)?)
+        Jobs::with_tables(alloc, JobTable::new(alloc)?)
     }
 
     /// Creates an empty table whose ids count from the given one, at least 1 and at most 2^53. An allocation failure is the only error.
     pub fn starting_at(alloc: Global, first: u64) -> Result<Jobs, AllocError> {
-        Jobs::with_table(alloc, JobTable::starting_at(alloc, first)?)
+        Jobs::with_tables(alloc, JobTable::starting_at(alloc, first)?)
     }
 
-    fn with_table(alloc: Global, table: JobTable) -> Result<Jobs, AllocError> {
+    fn with_tables(alloc: Global, table: JobTable) -> Result<Jobs, AllocError> {
+        let plans = PlanTable::new(alloc)?;
         let uses = Vec::with_capacity(alloc, JOB_LIMIT)?;
         Ok(Jobs {
             inner: Mutex::new(JobsInner {
                 table,
                 uses,
+                plans,
                 closed: false,
             }),
             available: Condvar::new(),
@@ -204,14 +239,35 @@ impl Jobs {
         self.available.notify_all();
     }
 
-    /// Returns the next job, once there is one; `None` if there is none and the table was closed. May wait.
-    pub(crate) fn wait_work<R: Wait>(&self, rt: &R) -> Option<Work>
-        ensures { HasTaken result }
+    /// Returns what is known of a request's programme; one that nothing is known of is planned from the snapshot, which has it, and a loop
+    /// that waits for work is woken. Not more than 64 plans wait and run. May wait.
+    pub fn find_or_plan<R: Wait>(
+        &self,
+        rt: &R,
+        snapshot: &Arc<Snapshot>,
+        request: Request,
+    ) -> Result<FoundPlan, AllocError>
+        ensures { IfOk result (HasAddedPlan request) }
+    {
+        let found = self.inner.lock(rt).plans.find_or_add(snapshot, request);
+        self.available.notify_one();
+        found
+    }
+
+    /// Returns what is known of a request's programme. May wait.
+    pub fn find_plan<R: Wait>(&self, rt: &R, request: Request) -> Result<FoundPlan, AllocError>
+        ensures { IfOk result (HasFoundPlan request) }
+    {
+        self.inner.lock(rt).plans.find(request)
+    }
+
+    /// Returns the next job or plan, once there is one; `None` if there is none and the table was closed. May wait.
+    pub(crate) fn wait_work<R: Wait>(&self, rt: &R) -> Option<NextWork>
+        ensures { HasTaken (job_in result) }
     {
         self.available
             .wait_while(rt, self.inner.lock(rt), |inner| inner.lacks_work())
-            .table
-            .take_work()
+            .take_next()
     }
 
     /// Finishes a job at a moment, in milliseconds of the monotonic clock. May wait.
@@ -228,5 +284,15 @@ impl Jobs {
             Ok(()) => Ok(()),
             Err(refused) => Err(refused.fault),
         }
+    }
+
+    /// Ends the plan for a request, with its texts if they could be made. May wait.
+    pub(crate) fn finish_plan<R: Wait>(
+        &self,
+        rt: &R,
+        request: Request,
+        made: Option<Arc<ProgrammeTexts>>,
+    ) {
+        self.inner.lock(rt).plans.finish(request, made);
     }
 }

@@ -99,6 +99,12 @@ unfoldable pub request_metrics : List ℕ → List ℕ
 request_metrics counts =
     description (codes "hls_requests_total") (codes "counter") (codes "Requests that were answered, by route and status.") ++ request_rows_from 0 counts
 
+-- of requests, and of what was planned for them
+unfoldable pub served_metrics : Measured → List ℕ
+served_metrics m =
+    counter (codes "hls_programme_plans_total") (codes "Plans of programmes by address: one for all who request it.") m.programme_plans
+    ++ request_metrics m.requests
+
 -- ---- all of them
 
 -- of connections and sync samples
@@ -111,7 +117,7 @@ process_part m = process_metrics m ++ (file_metrics m ++ (time_metrics m ++ cloc
 
 -- of what was mended, kept, refused and answered
 unfoldable pub work_part : Measured → List ℕ
-work_part m = repair_metrics m ++ (journal_metrics m ++ (refusal_metrics m.refusals ++ request_metrics m.requests))
+work_part m = repair_metrics m ++ (journal_metrics m ++ (refusal_metrics m.refusals ++ served_metrics m))
 
 unfoldable pub measured_metrics : Measured → List ℕ
 measured_metrics m = channel_part m ++ (process_part m ++ work_part m)

@@ -37,6 +37,8 @@ pub struct Measured {
     pub still_us: u64,
     pub mended_fragments: u64,
     pub filled_fragments: u64,
+    /// Plans of programmes by address that planners have ended.
+    pub programme_plans: u64,
     /// Log entries that the journal doesn't have yet.
     pub journal_lag: u64,
     /// 1 once the channel continues without its journal.
@@ -79,6 +81,7 @@ impl Measured {
             still_us: 0,
             mended_fragments: 0,
             filled_fragments: 0,
+            programme_plans: 0,
             journal_lag: 0,
             journal_lost: 0,
             sync_age_us: 0,

@@ -306,6 +306,21 @@ fn push_request_metrics(out: &mut Vec<u8>, counts: &[u64]) -> Result<(), AllocEr
     Ok(())
 }
 
+/// Appends the metrics of requests, and of what was planned for them.
+#[tactic(auto, unfolding(crate::specs::Measurements::served_metrics))]
+fn push_served_metrics(out: &mut Vec<u8>, measured: &Measured) -> Result<(), AllocError>
+    ensures { OnOk result (out.new.items ≡ out.old.items ++ spec.served_metrics measured.now) }
+{
+    push_counter(
+        out,
+        b"hls_programme_plans_total",
+        b"Plans of programmes by address: one for all who request it.",
+        measured.programme_plans,
+    )?;
+    push_request_metrics(out, &measured.requests)?;
+    Ok(())
+}
+
 /// Appends the metrics of connections and sync samples.
 #[tactic(auto, unfolding(crate::specs::Measurements::channel_part))]
 fn push_channel_part(out: &mut Vec<u8>, measured: &Measured) -> Result<(), AllocError>
@@ -338,7 +353,7 @@ fn push_work_part(out: &mut Vec<u8>, measured: &Measured) -> Result<(), AllocErr
     push_repair_metrics(out, measured)?;
     push_journal_metrics(out, measured)?;
     push_refusal_metrics(out, &measured.refusals)?;
-    push_request_metrics(out, &measured.requests)?;
+    push_served_metrics(out, measured)?;
     Ok(())
 }
 

@@ -29,6 +29,7 @@ pub struct Measurements {
     pub still_us: AtomicU64,
     pub mended_fragments: AtomicU64,
     pub filled_fragments: AtomicU64,
+    pub programme_plans: AtomicU64,
     pub journal_lag: AtomicU64,
     pub journal_lost: AtomicU64,
     /// When the journal was synced last, in milliseconds of the monotonic clock; 0 without one.
@@ -65,6 +66,7 @@ impl Measurements {
             still_us: AtomicU64::new(0),
             mended_fragments: AtomicU64::new(0),
             filled_fragments: AtomicU64::new(0),
+            programme_plans: AtomicU64::new(0),
             journal_lag: AtomicU64::new(0),
             journal_lost: AtomicU64::new(0),
             journal_synced_ms: AtomicU64::new(0),
@@ -125,6 +127,7 @@ impl Measurements {
             still_us: load(&self.still_us),
             mended_fragments: load(&self.mended_fragments),
             filled_fragments: load(&self.filled_fragments),
+            programme_plans: load(&self.programme_plans),
             journal_lag: load(&self.journal_lag),
             journal_lost: load(&self.journal_lost),
             sync_age_us: load(&self.sync_age_us),

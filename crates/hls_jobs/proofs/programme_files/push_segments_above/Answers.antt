@@ -2,7 +2,7 @@ use Rattle.std.proofs.Common.{◌++◌, ap, sym, ◌∙◌, rules}
 use Rattle.hls_m3u8.specs.declared.playlist.MediaSegment.{MediaSegment}
 use Rattle.hls_m3u8.specs.Lines.{segment_lines, text_of_lines}
 use Rattle.hls_jobs.specs.Programmes.{segment_above}
-use Rattle.hls_jobs.proofs.ProgrammeTexts.{next_made}
+use Rattle.hls_jobs.proofs.PathTexts.{next_made}
 use Rattle.hls_jobs.proofs.programme_files.push_segments_above.Goals as goal
 
 pub loop-segment-preserved : goal.loop-segment-preserved

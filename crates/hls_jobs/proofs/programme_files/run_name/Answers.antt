@@ -1,6 +1,6 @@
 use Rattle.std.proofs.Common.{◌∙◌, subst, sym}
 use Rattle.std.specs.Prelude.{IsUtf8}
-use Rattle.hls_jobs.proofs.ProgrammeTexts.{run_utf8}
+use Rattle.hls_jobs.proofs.PathTexts.{run_utf8}
 use Rattle.hls_jobs.proofs.programme_files.run_name.Goals as goal
 
 pub from_known_utf8-requires : goal.from_known_utf8-requires
