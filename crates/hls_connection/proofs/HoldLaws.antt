@@ -8,15 +8,20 @@ use Rattle.hls_http.specs.{declared.request_action.RequestAction.TheVariants.Ref
 use Rattle.hls_http.{specs.{Bodies.{IsOpen, StepsThrough, NoStep}, Heads.{IsUnfinished, ReadsLimitedHead}}, proofs.Callers.heads_stay}
 use Rattle.http_server.proofs.MachineLemmas.{head_is_some}
 use Rattle.hls_core_laws.specs.{IsState.IsState}
-use Rattle.hls_api.specs.{Acts.Act, Acts.Knowledge, Ingest.Progress, Ingest.no_progress, Responses.fault_answer, declared.route.Route.Route}
-use Rattle.hls_api.specs.Exchanges.{DueResponse, IsExchange, IsDue, IsDueWithoutHead, RefusesHead, continue_prefix, request_of}
-use Rattle.hls_api.specs.ConnectionStates.{Exchange, History, Serves, AreBodyActs, IsBetween, IsWithin, EndsByReply, IsAtStage, IsServed, acts_of, text_of, due_in}
+use Rattle.hls_api.specs.{Acts.Act, Acts.Knowledge, Ingest.Progress, Ingest.no_progress, Queries.programme_query_in, Responses.fault_answer, Routes.query_of, declared.route.Route.Route}
+use Rattle.hls_api.specs.Exchanges.{DueResponse, IsExchange, IsDue, IsDueWithoutHead, RefusesHead, continue_prefix, params_of, request_of}
+use Rattle.hls_api.specs.ConnectionStates.{Exchange, History, Serves, AreBodyActs, IsForAnswer, IsBetween, IsWithin, EndsByReply, IsAtStage, IsServed, acts_of, text_of, due_in}
 use Rattle.hls_connection.specs.{declared.request_context.RequestContext.RequestContext, declared.receive.BodyTarget.BodyTarget, declared.receive.ReceivingBody.ReceivingBody}
 use Rattle.hls_connection.specs.{declared.state.ConnectionState.ConnectionState, declared.state.Transition.Transition, declared.state.WaitingResponse.WaitingResponse, declared.state.WritingResponse.WritingResponse, IngestStates.progress_of}
 use Rattle.hls_connection.specs.States.{BeginsBody, HasNoActs, IsHandled, IsNotOverIn, IsConsistent, LacksMore, IsIdleOrWaiting, IsInState, ReportsProgress, RespondsTo, RespondsWith, SuitsState, acts_of_step, awaited_state, current_acts, stage_of, state_after, steps_in, steps_of}
-use Rattle.hls_connection.specs.WithinBody.{HasBody, HasReceived, IsForTarget, IsReceiving, IsWaiting, IsWriting, SuitsTarget, action_into}
+use Rattle.hls_connection.specs.WithinBody.{HasBody, HasReceived, IsAsked, IsForTarget, IsReceiving, IsWaiting, IsWriting, SuitsTarget, action_into}
 use Rattle.hls_connection.specs.{declared.ingest_sink.IngestState.IngestState, RequestContexts.IsContextOf, Waits.deadline_in}
 use Rattle.hls_connection.{specs.NeedsMore.{EndsBeforeStep, NeedsMore}, proofs.CallLaws.replies_by}
+use Rattle.hls_api.specs.Programmes.{busy_answer}
+use Rattle.hls_http.specs.declared.framing.BodyFraming.TheVariants.{Length}
+use Rattle.hls_connection.specs.{declared.state.Awaited.Awaited, Waits.awaited_route}
+use Rattle.hls_connection.proofs.PlayerLaws.{plan_unfinished, programme_response}
+use Rattle.hls_connection.specs.declared.state.Awaited.TheVariants as awaits
 use Rattle.hls_http.specs.declared.end.SessionEnd.TheVariants as ends
 use Rattle.hls_connection.specs.declared.state.ConnectionState.TheVariants as states
 use Rattle.hls_connection.specs.declared.receive.BodyTarget.TheVariants as targets
@@ -260,8 +265,22 @@ within_writing {w} x =
       }),
     ))
 
-abbrev pub within_waiting : {channel : ServedChannel} {stream first : List ℕ} {w : WaitingResponse} {unread : List ℕ} → IsWaiting channel stream first w unread → IsWithin channel stream w.acts first unread
-within_waiting {w} x = within w.acts x.discarded.at (inl (x.discarded.at.plan_is, inl x.asked))
+pub within_waiting : {channel : ServedChannel} {stream first : List ℕ} {w : WaitingResponse} {unread : List ℕ} → IsWaiting channel stream first w unread → IsWithin channel stream w.acts first unread
+within_waiting {channel} {w} x =
+    let at = x.discarded.at in within w.acts at (inl (at.plan_is, by w.awaited (x.discarded.discarded []).0 (sym at.is_context.route ∙ x.discarded.route_is) x.asked))
+  where
+    by : (awaited : Awaited) → x.last ≡ Length 0 → (request_of channel x.discarded.at.head).asks.route ≡ Some (awaited_route awaited) → IsAsked x.discarded.at.head awaited w.acts
+        → (w.acts ≡ []) ⊎ IsForAnswer (request_of channel x.discarded.at.head) x.last w.acts
+    by (awaits.Job id) whole route asked = inl asked.1
+    by (awaits.Plan plan) whole route asked =
+        inr (record {
+          whole = whole;
+          route = awaited_route (awaits.Plan plan);
+          route_is = route;
+          answer = busy_answer;
+          responds = programme_response (params_of channel x.discarded.at.head) plan.start plan.stop plan.file [] w.acts busy_answer x.waits
+              (plan_unfinished (programme_query_in plan.start plan.stop (query_of x.discarded.at.head.target)) plan.file [] w.acts plan.request busy_answer asked refl);
+        })
 
 -- the input's end cuts it short
 pub cuts : {channel : ServedChannel} {old new : ReceivingBody} {h : History} (unread : List ℕ) (x : IsConsistent channel (states.Receive old) h) → h.pending ≡ [] → IsTrue h.ended → IsReceiving channel x.rest x.text new unread × IsOpen new.body unread
@@ -349,7 +368,6 @@ stands_more (states.Wait w) channel ended now stream acts text unread more going
       record {
         last = s.0.last;
         discarded = record { at = body_more more d.at; route_is = d.route_is; discarded = λ later. d.discarded later };
-        prefers = s.0.prefers;
         waits = s.0.waits;
         asked = s.0.asked;
       },

@@ -8,3 +8,4 @@ mod MendLaws
 mod WithinLaws
 mod WaitLaws
 mod PlayerLaws
+mod PlanLaws

@@ -1,16 +1,25 @@
 -- The replies to players are made of the state that is seen.
-use Rattle.std.proofs.Common.{◌≡◌, ◌∙◌, List, Option, Some, IfOk, Result, Ok, Err, inl, inr, ap, sym}
-use Rattle.hls_api.specs.Acts.{Act, Looked, RecordsLook}
-use Rattle.hls_api.specs.Exchanges.{IsServedBy, RequestParams, shown_to_player}
+use Rattle.std.proofs.Common.{◌≡◌, ◌∙◌, true, List, [], Option, Some, None, IfOk, Result, Ok, Err, inl, inr, ap, refl, sym}
+use Rattle.hls_api.specs.Acts.{Act, ActsChangeNothing, Looked, RecordsLook}
+use Rattle.hls_api.specs.Exchanges.{HandlesProgramme, IsServedBy, RequestParams, shown_to_player}
 use Rattle.hls_api.specs.Responses.{ResponseData}
-use Rattle.hls_api.specs.Programmes.{ShowsProgramme}
-use Rattle.hls_api.specs.declared.catchup_query.TimePoint.{TimePoint}
+use Rattle.hls_api.specs.Programmes.{ShowsFound, StartsProgramme}
+use Rattle.hls_api.specs.Queries.{programme_query_in}
+use Rattle.hls_api.specs.Routes.{allows}
+use Rattle.hls_api.specs.declared.programme_responses.ProgrammeStart.TheVariants.{Planned, Refused}
+use Rattle.hls_api.specs.declared.catchup_query.{CatchupQuery.CatchupQuery, TimePoint.TimePoint}
 use Rattle.hls_api.specs.declared.route.ProgrammeFile.{ProgrammeFile}
 use Rattle.hls_api.specs.declared.route.Route.{Route}
 use Rattle.hls_api.specs.declared.route.Route.TheVariants as routes
 use Rattle.hls_core_laws.specs.State.{State}
 use Rattle.hls_api.proofs.Callers.{player_served}
-use Rattle.hls_connection.specs.RequestContexts.{RespondsBy}
+use Rattle.hls_catchup.specs.declared.request.Request.{Request}
+use Rattle.hls_http.specs.declared.method.Method.{Method}
+use Rattle.hls_jobs.specs.Plans.{HasAddedPlan, HasFoundPlan}
+use Rattle.hls_jobs.specs.declared.plans.FoundPlan.{FoundPlan}
+use Rattle.hls_jobs.specs.declared.plans.FoundPlan.TheVariants.{Unfinished}
+use Rattle.hls_connection.specs.{Plans.AwaitsPlanOf, RequestContexts.{IsMadeResponse, IsResponse, RespondsBy}, Waits.may_wait}
+use Rattle.hls_http.specs.declared.method.Method.TheVariants as methods
 
 -- the reply that was made is what is shown
 pub is_shown : {E : Type 0} (result : Result ResponseData E) (answer : ResponseData) (shown : Option ResponseData) → shown ≡ Some answer →
@@ -24,8 +33,52 @@ pub responds_to_player : {E : Type 0} (q : RequestParams) (route : Route) (a b :
 responds_to_player q route a b s (Ok answer) looks shown = player_served q route a b s answer looks shown
 responds_to_player q route a b s (Err e) looks shown = inl (inr (Looked s, inl (tt {0}), looks))
 
--- so are those that show a programme
-pub responds_to_programme : {E : Type 0} (q : RequestParams) (start stop : TimePoint) (file : ProgrammeFile) (a b : List Act) (s : State) (result : Result ResponseData E) → RecordsLook a s b →
-    IfOk result (λ shown. ShowsProgramme s start stop file shown) → RespondsBy (λ x y answer. IsServedBy q (routes.Programme start stop file) x answer y) a b result
-responds_to_programme q start stop file a b s (Ok answer) looks shown = (s, looks, shown)
-responds_to_programme q start stop file a b s (Err e) looks shown = inl (inr (Looked s, inl (tt {0}), looks))
+-- ---- programmes
+
+-- a plan that was unfinished is shown as it was found later
+pub plan_shown : (said : Option CatchupQuery) (file : ProgrammeFile) (a b : List Act) (request : Request) (found : FoundPlan) (answer : ResponseData) → AwaitsPlanOf said a b request → HasFoundPlan request found
+    → ShowsFound file found answer → HandlesProgramme said file a b answer
+plan_shown (Some query) file a b request found answer x gets shows = (x.state, x.looks, (Planned request, x.starts, inr (x.added, (found, gets, shows))))
+plan_shown None file a b request found answer x gets shows = absurd x
+
+-- .. or as unfinished
+pub plan_unfinished : (said : Option CatchupQuery) (file : ProgrammeFile) (a b : List Act) (request : Request) (answer : ResponseData) → AwaitsPlanOf said a b request
+    → ShowsFound file Unfinished answer → HandlesProgramme said file a b answer
+plan_unfinished (Some query) file a b request answer x shows = (x.state, x.looks, (Planned request, x.starts, inl (Unfinished, x.added, shows)))
+plan_unfinished None file a b request answer x shows = absurd x
+
+-- .. or its text couldn't be allocated
+pub plan_lost : (said : Option CatchupQuery) (a b : List Act) (request : Request) → AwaitsPlanOf said a b request → ActsChangeNothing a b
+plan_lost (Some query) a b request x = inr (Looked x.state, inl (tt {0}), x.looks)
+plan_lost None a b request x = absurd x
+
+pub unfinished_shown : {E : Type 0} (said : Option CatchupQuery) (file : ProgrammeFile) (a b : List Act) (request : Request) (response : Result ResponseData E) → AwaitsPlanOf said a b request
+    → IfOk response (λ answer. ShowsFound file Unfinished answer) → RespondsBy (HandlesProgramme said file) a b response
+unfinished_shown said file a b request (Ok answer) x shows = plan_unfinished said file a b request answer x shows
+unfinished_shown said file a b request (Err e) x shows = inl (plan_lost said a b request x)
+
+-- a programme that the state doesn't have is refused
+pub programme_refused : (query : CatchupQuery) (file : ProgrammeFile) (a b : List Act) (s : State) (answer : ResponseData) → RecordsLook a s b → StartsProgramme s query (Refused answer)
+    → HandlesProgramme (Some query) file a b answer
+programme_refused query file a b s answer looks starts = (s, looks, (Refused answer, starts, refl))
+
+-- .. and one that it has is shown as a table of plans has it
+pub programme_found : (query : CatchupQuery) (file : ProgrammeFile) (a b : List Act) (s : State) (request : Request) (found : FoundPlan) (answer : ResponseData) → RecordsLook a s b
+    → StartsProgramme s query (Planned request) → HasAddedPlan request found → ShowsFound file found answer → HandlesProgramme (Some query) file a b answer
+programme_found query file a b s request found answer looks starts added shows = (s, looks, (Planned request, starts, inl (found, added, shows)))
+
+allowed : (start stop : TimePoint) (file : ProgrammeFile) (method : Method) → may_wait method ≡ true → allows (routes.Programme start stop file) method ≡ true
+allowed start stop file methods.Get is = refl
+allowed start stop file methods.Head is = refl
+allowed start stop file method is = absurd (cc is)
+
+-- it is a response to a request whose method's response may wait
+pub programme_response : (q : RequestParams) (start stop : TimePoint) (file : ProgrammeFile) (a b : List Act) (answer : ResponseData) → may_wait q.method ≡ true
+    → HandlesProgramme (programme_query_in start stop q.query) file a b answer → IsResponse q (routes.Programme start stop file) a b answer
+programme_response q start stop file a b answer may shows = rw (allowed start stop file q.method may) shows
+
+pub programme_begun : {E : Type 0} (q : RequestParams) (start stop : TimePoint) (file : ProgrammeFile) (acts : List Act) (response : Result ResponseData E) → may_wait q.method ≡ true
+    → IsMadeResponse (HandlesProgramme (programme_query_in start stop q.query) file [] acts) [] acts response → IsMadeResponse (IsResponse q (routes.Programme start stop file) [] acts) [] acts response
+programme_begun q start stop file acts (Ok answer) may shows = programme_response q start stop file [] acts answer may shows
+programme_begun q start stop file acts (Err e) may (inl nothing) = inl nothing
+programme_begun q start stop file acts (Err e) may (inr (answer, shows)) = inr (answer, programme_response q start stop file [] acts answer may shows)

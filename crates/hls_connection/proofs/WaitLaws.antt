@@ -1,17 +1,21 @@
--- Responses that wait for a job: what is due of the job as it was found.
+-- Responses that wait for a job or a plan: what is due of it as it was found.
 use Rattle.hls_api.specs.declared.route.ServedChannel.{ServedChannel}
 use Rattle.std.proofs.Common.{◌≡◌, ◌≢◌, ℕ, ◌<◌, ◌≤◌, ◌*◌, ◌+◌, ◌-◌, ◌^◌, ◌&&◌, Bool, true, false, cond, List, [], length, Option, Some, None, IsTrue, IsFalse, Result, Ok, Err, IfOk, inl, inr, refl, sym, ap, subst, arith}
 use Rattle.std.{specs.{Prelude.min, Option.is_some}, proofs.Math.Nat.{min-le_left, min-le_right}}
 use Rattle.httparse.specs.Grammar.{RequestHead}
-use Rattle.hls_catchup.specs.{declared.fault.JobFault.JobFault, declared.jobs.job.Job.Job}
 use Rattle.hls_http.specs.{declared.method.Method.Method, Actions.sends_close}
-use Rattle.hls_api.specs.{Acts.Act, JobTable.IsGetResult, Responses.ResponseData, Routes.allows, Routes.removes_job}
+use Rattle.hls_api.specs.{Acts.{Act, ActsChangeNothing}, Queries.programme_query_in, Responses.ResponseData, Routes.{allows, query_of, removes_job}}
 use Rattle.hls_api.specs.Exchanges.{DueResponse, IsJobResponse, RequestParams, continue_prefix, params_of, request_of, shown_if, to_head}
 use Rattle.hls_api.specs.declared.route.Route.{Route}
+use Rattle.hls_catchup.specs.declared.{fault.JobFault.JobFault, jobs.job.Job.Job}
 use Rattle.hls_connection.specs.{declared.state.ConnectionState.ConnectionState, declared.state.Transition.Transition, declared.state.WaitingResponse.WaitingResponse}
 use Rattle.hls_connection.specs.Traces.{ConnectionTrace, KeepsWaits, TraceWaits, trace_after_step}
-use Rattle.hls_connection.specs.Waits.{AnswersDue, AnswersJob, AnswersWith, IsAhead, IsAnswered, IsDeadline, IsJobDue, StaysOrAnswers, awaited_by, deadline_after, deadline_by, deadline_in, has_time, is_unfinished, may_wait, waits_in}
+use Rattle.hls_connection.specs.Waits.{AnswersDue, AnswersWait, AnswersWith, IsAhead, IsAnswered, IsAwaitedDue, IsDeadline, IsFound, ShowsAwaited, StaysOrAnswers, awaited_by, awaited_route, deadline_after, deadline_by, deadline_in, has_time, is_unfinished, may_wait, plan_deadline_after, plan_wait_by, waits_in}
 use Rattle.hls_connection.specs.{RequestContexts.{ForContext, IsContextOf, IsDueFor, IsMadeResponse, IsResponse}, States.RespondsWith}
+use Rattle.hls_connection.specs.{WithinBody.IsAsked, declared.state.Awaited.Awaited, declared.wait.Found.Found, declared.wait.PlanWait.PlanWait}
+use Rattle.hls_connection.proofs.PlayerLaws.{plan_lost, plan_shown, programme_response}
+use Rattle.hls_connection.specs.declared.state.Awaited.TheVariants as awaits
+use Rattle.hls_connection.specs.declared.wait.Found.TheVariants as founds
 use Rattle.hls_http.specs.declared.method.Method.TheVariants as methods
 use Rattle.hls_api.specs.declared.route.Route.TheVariants as routes
 use Rattle.hls_connection.specs.declared.state.ConnectionState.TheVariants as states
@@ -22,27 +26,48 @@ not_removed id methods.Get is = refl
 not_removed id methods.Head is = refl
 not_removed id method is = absurd (cc is)
 
--- what is due: the answer that was made, or the response to an allocation failure
-shown_due : {E : Type 0} (channel : ServedChannel) (h : RequestHead) (id : ℕ) (found : Result Job JobFault) (response : Result ResponseData E) (due : DueResponse)
-    → IfOk response (IsJobResponse found (shown_if (params_of channel h) (routes.Job id) (allows (routes.Job id) (params_of channel h).method)))
-    → IsDueFor (continue_prefix h (request_of channel h).action) response (sends_close h false) (to_head h) due → IsJobDue channel h id found due
-shown_due channel h id found (Ok a) due shows is = inl (a, shows, is)
-shown_due channel h id found (Err e) due shows is = inr is
+-- a job is shown as it was found
+pub job_shown : {E : Type 0} (awaited : Awaited) (found : Found) (id : ℕ) (job : Result Job JobFault) (q : RequestParams) (response : Result ResponseData E) → awaited ≡ awaits.Job id → found ≡ founds.Job job
+    → IfOk response (IsJobResponse job (shown_if q (routes.Job id) (allows (routes.Job id) q.method))) → IfOk response (ShowsAwaited awaited q found)
+job_shown awaited found id job q (Ok a) waits is shows =
+    subst (λ (w : Awaited). ShowsAwaited w q found a) (sym waits) (subst (λ (f : Found). ShowsAwaited (awaits.Job id) q f a) (sym is) shows)
+job_shown awaited found id job q (Err e) waits is shows = shows
 
--- the response shows the job as it was found
-pub answered : {E : Type 0} (w : WaitingResponse) (found : Result Job JobFault) (response : Result ResponseData E) (step : Transition)
-    → ForContext w.context (λ h q. IfOk response (IsJobResponse found (shown_if q (routes.Job w.id) (allows (routes.Job w.id) q.method))))
+-- what is due: the answer that was made, or the response to an allocation failure
+shown_due : {E : Type 0} (channel : ServedChannel) (h : RequestHead) (awaited : Awaited) (found : Found) (response : Result ResponseData E) (due : DueResponse)
+    → IfOk response (ShowsAwaited awaited (params_of channel h) found)
+    → IsDueFor (continue_prefix h (request_of channel h).action) response (sends_close h false) (to_head h) due → IsAwaitedDue channel h awaited found due
+shown_due channel h awaited found (Ok a) due shows is = inl (a, shows, is)
+shown_due channel h awaited found (Err e) due shows is = inr is
+
+-- the response shows the job or the plan as it was found
+pub answered : {E : Type 0} (w : WaitingResponse) (found : Found) (response : Result ResponseData E) (step : Transition)
+    → ForContext w.context (λ h q. IfOk response (ShowsAwaited w.awaited q found))
     → ((channel : ServedChannel) (h : RequestHead) (first : List ℕ) → IsContextOf channel h w.context → RespondsWith (IsDueFor first response (sends_close h false) (to_head h)) first w.acts step)
     → IsAnswered w found step.output
 answered w found response step shows responds = λ channel h context.
     let r = responds channel h (continue_prefix h (request_of channel h).action) context in
-    (r.due, shown_due channel h w.id found response r.due (shows channel h context) r.is, r.text_is)
+    (r.due, shown_due channel h w.awaited found response r.due (shows channel h context) r.is, r.text_is)
 
 -- .. and is one to its request
-pub waiting_made : {E : Type 0} (q : RequestParams) (id : ℕ) (found : Result Job JobFault) (acts : List Act) (response : Result ResponseData E) → may_wait q.method ≡ true → acts ≡ []
-    → IsGetResult id found → IfOk response (IsJobResponse found (shown_if q (routes.Job id) (allows (routes.Job id) q.method))) → IsMadeResponse (IsResponse q (routes.Job id) [] acts) [] acts response
-waiting_made q id found acts (Ok a) waits nothing gets shows = rw (not_removed id q.method waits) (nothing, (found, gets, shows))
-waiting_made q id found acts (Err e) waits nothing gets shows = inl (inl nothing)
+waiting_answer : (channel : ServedChannel) (h : RequestHead) (awaited : Awaited) (found : Found) (acts : List Act) (answer : ResponseData) → may_wait (params_of channel h).method ≡ true → IsAsked h awaited acts
+    → IsFound awaited found → ShowsAwaited awaited (params_of channel h) found answer → IsResponse (params_of channel h) (awaited_route awaited) [] acts answer
+waiting_answer channel h (awaits.Job id) (founds.Job found) acts a waits asked gets shows = rw (not_removed id (params_of channel h).method waits) (asked.1, (found, gets, shows))
+waiting_answer channel h (awaits.Plan plan) (founds.Plan (Ok found)) acts a waits asked gets shows =
+    let said = programme_query_in plan.start plan.stop (query_of h.target) in
+    programme_response (params_of channel h) plan.start plan.stop plan.file [] acts a waits (plan_shown said plan.file [] acts plan.request found a asked gets shows)
+waiting_answer channel h (awaits.Job id) (founds.Plan found) acts a waits asked gets shows = absurd gets
+waiting_answer channel h (awaits.Plan plan) (founds.Job found) acts a waits asked gets shows = absurd gets
+waiting_answer channel h (awaits.Plan plan) (founds.Plan (Err e)) acts a waits asked gets shows = absurd shows
+
+waiting_lost : (h : RequestHead) (awaited : Awaited) (acts : List Act) → IsAsked h awaited acts → ActsChangeNothing [] acts
+waiting_lost h (awaits.Job id) acts asked = inl asked.1
+waiting_lost h (awaits.Plan plan) acts asked = plan_lost (programme_query_in plan.start plan.stop (query_of h.target)) [] acts plan.request asked
+
+pub waiting_made : {E : Type 0} (channel : ServedChannel) (h : RequestHead) (awaited : Awaited) (found : Found) (acts : List Act) (response : Result ResponseData E) → may_wait (params_of channel h).method ≡ true → IsAsked h awaited acts
+    → IsFound awaited found → IfOk response (ShowsAwaited awaited (params_of channel h) found) → IsMadeResponse (IsResponse (params_of channel h) (awaited_route awaited) [] acts) [] acts response
+waiting_made channel h awaited found acts (Ok a) waits asked gets shows = waiting_answer channel h awaited found acts a waits asked gets shows
+waiting_made channel h awaited found acts (Err e) waits asked gets shows = inl (waiting_lost h awaited acts asked)
 
 -- ---- that it may wait, and until when
 
@@ -50,10 +75,10 @@ abbrev pair_in : Option (ℕ × ℕ) → ℕ × ℕ
 pair_in (Some pair) = pair
 pair_in None = (0, 0)
 
-pub awaited_route : (route : Route) (deadline : Option ℕ) (id at : ℕ) → awaited_by route deadline ≡ Some (id, at) → (route ≡ routes.Job id) × (deadline ≡ Some at)
-awaited_route (routes.Job i) (Some d) id at is = (ap (λ (o : Option (ℕ × ℕ)). routes.Job (pair_in o).0) is, ap (λ (o : Option (ℕ × ℕ)). Some (pair_in o).1) is)
-awaited_route (routes.Job i) None id at is = absurd (cc is)
-awaited_route route deadline id at is = absurd (cc is)
+pub awaited_by_route : (route : Route) (deadline : Option ℕ) (id at : ℕ) → awaited_by route deadline ≡ Some (id, at) → (route ≡ routes.Job id) × (deadline ≡ Some at)
+awaited_by_route (routes.Job i) (Some d) id at is = (ap (λ (o : Option (ℕ × ℕ)). routes.Job (pair_in o).0) is, ap (λ (o : Option (ℕ × ℕ)). Some (pair_in o).1) is)
+awaited_by_route (routes.Job i) None id at is = absurd (cc is)
+awaited_by_route route deadline id at is = absurd (cc is)
 
 -- the head asks for it, and the method's response may wait
 pub wait_asked : (method : Method) (wait now : Option ℕ) (at : ℕ) → deadline_by method wait now ≡ Some at → (is_some wait ≡ true) × (may_wait method ≡ true)
@@ -76,6 +101,33 @@ wait_ends method (Some seconds) (Some now) at is = by (may_wait method) is
     by false is = absurd (cc is)
 wait_ends method (Some seconds) None at is = absurd (cc is)
 wait_ends method None now at is = absurd (cc is)
+
+abbrev wait_in : PlanWait → Option PlanWait → PlanWait
+wait_in given (Some found) = found
+wait_in given None = given
+
+-- a programme whose plan a response may wait for: its route, its method, and until when
+pub record AsksForPlan (route : Route) (method : Method) (now : Option ℕ) (wait : PlanWait) : Type 0 where
+  pub route_is : route ≡ routes.Programme wait.start wait.stop wait.file
+  pub waits : may_wait method ≡ true
+  pub deadline : IsDeadline now None (Some wait.deadline_ms)
+
+soon_planned : (now : ℕ) → plan_deadline_after now ≤ now + 30000
+soon_planned now = omega (arith, min-le_left (now + 10000) (2 ^ 64 - 1))
+
+pub plan_asked : (route : Route) (method : Method) (now : Option ℕ) (wait : PlanWait) → plan_wait_by route method now ≡ Some wait → AsksForPlan route method now wait
+plan_asked (routes.Programme start stop file) method (Some now) wait is = by (may_wait method) refl is
+  where
+    made : PlanWait
+    made = record { start = start; stop = stop; file = file; deadline_ms = plan_deadline_after now }
+
+    by : (may : Bool) → may_wait method ≡ may → cond may (Some made) None ≡ Some wait → AsksForPlan (routes.Programme start stop file) method (Some now) wait
+    by true may is =
+        let same : made ≡ wait = ap (wait_in made) is in
+        subst (λ (w : PlanWait). AsksForPlan (routes.Programme start stop file) method (Some now) w) same (record { route_is = refl; waits = may; deadline = soon_planned now })
+    by false may is = absurd (cc is)
+plan_asked (routes.Programme start stop file) method None wait is = absurd (cc is)
+plan_asked route method now wait is = absurd (cc is)
 
 -- ---- a step of a connection
 
@@ -124,7 +176,7 @@ sending_waits now c more some = record {
 }
 
 -- a response waits on
-pub waiting_waits : (now : Option ℕ) (old new : ConnectionTrace) (more : Bool) (w next : WaitingResponse) → old.state ≡ states.Wait w → new.state ≡ states.Wait next → next ≡ w → AnswersJob now w None → KeepsWaits now old new more
+pub waiting_waits : (now : Option ℕ) (old new : ConnectionTrace) (more : Bool) (w next : WaitingResponse) → old.state ≡ states.Wait w → new.state ≡ states.Wait next → next ≡ w → AnswersWait now w None → KeepsWaits now old new more
 waiting_waits now old new more w next was is same a = record {
   deadline = rw (was, is, same) refl;
   answers = λ empty. rw (was, is, same) (a.found, a.gets, stays (has_time now w.deadline_ms && is_unfinished a.found) a.answers);
@@ -140,7 +192,7 @@ waiting_waits now old new more w next was is same a = record {
     ahead false unfinished answers = absurd answers
 
 -- .. or is answered
-pub answered_waits : (now : Option ℕ) (old c : ConnectionTrace) (more : Bool) (w : WaitingResponse) (step : Transition) → old.state ≡ states.Wait w → AnswersJob now w (Some step) → deadline_in step.state ≡ None
+pub answered_waits : (now : Option ℕ) (old c : ConnectionTrace) (more : Bool) (w : WaitingResponse) (step : Transition) → old.state ≡ states.Wait w → AnswersWait now w (Some step) → deadline_in step.state ≡ None
     → KeepsWaits now old (trace_after_step c step) more
 answered_waits now old c more w step was a awake = record {
   deadline = rw awake tt;

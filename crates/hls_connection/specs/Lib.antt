@@ -14,3 +14,4 @@ pub mod Connections
 pub mod NeedsMore
 pub mod WithinBody
 pub mod Waits
+pub mod Plans

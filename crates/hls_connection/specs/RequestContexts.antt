@@ -4,7 +4,7 @@ use Rattle.hls_api.specs.declared.route.ServedChannel.{ServedChannel}
 use Rattle.std.specs.Prelude.{◌≡◌, ℕ, ◌⊎◌, Bool, true, false, List, ◌++◌, Option, Some, IfOk, Result, Ok, Err}
 use Rattle.httparse.specs.Grammar.{RequestHead}
 use Rattle.hls_http.specs.{ResponseText.{is_success, out_of_memory_response}, ReadHeads.IsHead}
-use Rattle.hls_api.specs.{declared.catchup_query.CatchupQuery.CatchupQuery, declared.route.Route.Route, Queries.query_in}
+use Rattle.hls_api.specs.{declared.catchup_query.CatchupQuery.CatchupQuery, declared.route.Route.Route, Queries.{programme_query_in, query_in}}
 use Rattle.hls_api.specs.{Acts.{Act, ActsChangeNothing}, Exchanges.{RequestParams, DueResponse, ServesBy, params_of, job_at}}
 use Rattle.hls_api.specs.{Responses.{ResponseData, answer_text}, Routes.{path_of, query_of, route_of}}
 use Rattle.hls_connection.specs.declared.request_context.RequestContext.{RequestContext}
@@ -12,12 +12,18 @@ use Rattle.hls_api.specs.declared.route.Route.TheVariants as routes
 
 -- ---- what was read
 
+-- the query of a catch-up request, or of one for a programme, in a text
+abbrev pub HasQuery : {E : Type 0} → Option Route → List ℕ → Result (Option CatchupQuery) E → Type 0
+HasQuery (Some routes.CatchUp) text query = IfOk query (λ said. said ≡ query_in text)
+HasQuery (Some (routes.Programme start stop file)) text query = IfOk query (λ said. said ≡ programme_query_in start stop text)
+HasQuery route text query = Unit {0}
+
 -- in this channel this is kept of the head h
 pub record IsContextOf (channel : ServedChannel) (h : RequestHead) (context : RequestContext) : Type 0 where
   pub text : List ℕ
   pub head : IsHead h context.head text
   pub route : context.route ≡ route_of channel (path_of h.target)
-  pub query : context.route ≡ Some routes.CatchUp → IfOk context.query (λ query. query ≡ query_in (query_of h.target))
+  pub query : HasQuery context.route (query_of h.target) context.query
 
 -- this was kept of some head in some channel
 abbrev pub ForContext : RequestContext → (RequestHead → RequestParams → Type 0) → Type 0
@@ -29,7 +35,7 @@ ForContextAt route context Is = ForContext context (λ h q. context.route ≡ So
 
 -- what a query asks for; it was read from some text
 abbrev pub ForQuery : {E : Type 0} → Result (Option CatchupQuery) E → (Option CatchupQuery → Type 0) → Type 0
-ForQuery query Is = (text : List ℕ) → IfOk query (λ said. said ≡ query_in text) → Is (query_in text)
+ForQuery query Is = (said : Option CatchupQuery) → IfOk query (λ found. found ≡ said) → Is said
 
 -- ---- answers
 

@@ -1,14 +1,19 @@
 -- For the proofs of this crate; no public clause cites it.
--- Responses that wait for a job to be finished.
+-- Responses that wait for a job to be finished, or for a programme to be planned.
 use Rattle.hls_api.specs.declared.route.ServedChannel.{ServedChannel}
-use Rattle.std.specs.Prelude.{◌≡◌, ◌⊎◌, ◌≤◌, ℕ, ◌+◌, ◌*◌, ◌-◌, ◌^◌, min, nat_lt, Bool, true, false, cond, ◌&&◌, List, ◌++◌, Option, Some, None, Result, Ok, IsTrue}
+use Rattle.std.specs.Prelude.{◌≡◌, ◌⊎◌, ◌≤◌, ℕ, ◌+◌, ◌*◌, ◌-◌, ◌^◌, min, nat_lt, Bool, true, false, cond, ◌&&◌, List, ◌++◌, Option, Some, None, Ok, IfOk, IsTrue}
 use Rattle.httparse.specs.Grammar.{RequestHead}
-use Rattle.hls_catchup.specs.{declared.fault.JobFault.JobFault, declared.jobs.job.Job.Job}
 use Rattle.hls_http.specs.declared.method.Method.{Method}
-use Rattle.hls_api.specs.Exchanges.{DueResponse, IsDue, IsJobResponse, continue_prefix, due_for_memory, params_of, request_of, shown_if}
+use Rattle.hls_jobs.specs.Plans.{HasFoundPlan}
+use Rattle.hls_api.specs.Programmes.{ShowsFound}
+use Rattle.hls_api.specs.Exchanges.{DueResponse, IsDue, IsJobResponse, RequestParams, continue_prefix, due_for_memory, params_of, request_of, shown_if}
 use Rattle.hls_api.specs.{declared.route.Route.Route, JobTable.IsGetResult, Responses.ResponseData, Routes.allows}
 use Rattle.hls_connection.specs.{declared.state.Transition.Transition, declared.state.WaitingResponse.WaitingResponse, declared.state.ConnectionState.ConnectionState, RequestContexts.IsContextOf}
+use Rattle.hls_connection.specs.{declared.state.Awaited.Awaited, declared.wait.Found.Found, declared.wait.PlanWait.PlanWait}
 use Rattle.hls_catchup.specs.declared.jobs.job.Job.TheVariants as jobs
+use Rattle.hls_jobs.specs.declared.plans.FoundPlan.TheVariants as plans
+use Rattle.hls_connection.specs.declared.state.Awaited.TheVariants as awaits
+use Rattle.hls_connection.specs.declared.wait.Found.TheVariants as founds
 use Rattle.hls_http.specs.declared.method.Method.TheVariants as methods
 use Rattle.hls_api.specs.declared.route.Route.TheVariants as routes
 use Rattle.hls_connection.specs.declared.state.ConnectionState.TheVariants as states
@@ -35,6 +40,15 @@ abbrev pub awaited_by : Route → Option ℕ → Option (ℕ × ℕ)
 awaited_by (routes.Job id) (Some deadline) = Some (id, deadline)
 awaited_by route deadline = None
 
+-- the programme for whose plan the response may wait, for at most ten seconds
+abbrev pub plan_deadline_after : ℕ → ℕ
+plan_deadline_after now = min (now + 10000) (2 ^ 64 - 1)
+
+abbrev pub plan_wait_by : Route → Method → Option ℕ → Option PlanWait
+plan_wait_by (routes.Programme start stop file) method (Some now) =
+    cond (may_wait method) (Some (record { start = start; stop = stop; file = file; deadline_ms = plan_deadline_after now })) None
+plan_wait_by route method now = None
+
 -- the deadline is still to come
 abbrev pub has_time : Option ℕ → ℕ → Bool
 has_time (Some now) deadline = nat_lt now deadline
@@ -42,49 +56,66 @@ has_time None deadline = false
 
 -- ---- for what
 
--- the job waits for a planner, or runs
-abbrev pub is_unfinished : Result Job JobFault → Bool
-is_unfinished (Ok jobs.Waiting) = true
-is_unfinished (Ok jobs.Running) = true
+-- the job or the plan waits for a planner, or runs
+abbrev pub is_unfinished : Found → Bool
+is_unfinished (founds.Job (Ok jobs.Waiting)) = true
+is_unfinished (founds.Job (Ok jobs.Running)) = true
+is_unfinished (founds.Plan (Ok plans.Unfinished)) = true
 is_unfinished found = false
+
+-- it was found so
+abbrev pub IsFound : Awaited → Found → Type 0
+IsFound (awaits.Job id) (founds.Job found) = IsGetResult id found
+IsFound (awaits.Plan plan) (founds.Plan found) = IfOk found (HasFoundPlan plan.request)
+IsFound awaited found = ⊥
+
+-- the route of such a request
+abbrev pub awaited_route : Awaited → Route
+awaited_route (awaits.Job id) = routes.Job id
+awaited_route (awaits.Plan plan) = routes.Programme plan.start plan.stop plan.file
 
 -- ---- the answer
 
--- what is due shows the job as it was found; or an allocation failed
-abbrev pub IsJobDue : ServedChannel → RequestHead → ℕ → Result Job JobFault → DueResponse → Type 0
-IsJobDue channel h id found due =
-    ((answer : ResponseData) × IsJobResponse found (shown_if (params_of channel h) (routes.Job id) (allows (routes.Job id) (params_of channel h).method)) answer
-    × IsDue h (request_of channel h).action answer false due)
+-- the answer shows what was found
+abbrev pub ShowsAwaited : Awaited → RequestParams → Found → ResponseData → Type 0
+ShowsAwaited (awaits.Job id) q (founds.Job found) answer = IsJobResponse found (shown_if q (routes.Job id) (allows (routes.Job id) q.method)) answer
+ShowsAwaited (awaits.Plan plan) q (founds.Plan (Ok found)) answer = ShowsFound plan.file found answer
+ShowsAwaited awaited q found answer = ⊥
+
+-- what is due shows the job or the plan as it was found; or an allocation failed
+abbrev pub IsAwaitedDue : ServedChannel → RequestHead → Awaited → Found → DueResponse → Type 0
+IsAwaitedDue channel h awaited found due =
+    ((answer : ResponseData) × ShowsAwaited awaited (params_of channel h) found answer × IsDue h (request_of channel h).action answer false due)
     ⊎ (due ≡ due_for_memory h (request_of channel h).action)
 
 -- what is sent, after 100 Continue where that was sent, makes up what is due
-abbrev pub IsAnswered : WaitingResponse → Result Job JobFault → List ℕ → Type 0
+abbrev pub IsAnswered : WaitingResponse → Found → List ℕ → Type 0
 IsAnswered w found output =
     (channel : ServedChannel) (h : RequestHead) → IsContextOf channel h w.context
-    → (due : DueResponse) × IsJobDue channel h w.id found due × (due.text ≡ continue_prefix h (request_of channel h).action ++ output)
+    → (due : DueResponse) × IsAwaitedDue channel h w.awaited found due × (due.text ≡ continue_prefix h (request_of channel h).action ++ output)
 
 -- it waits on, or it answers
-abbrev pub AnswersWith : WaitingResponse → Result Job JobFault → Bool → Option Transition → Type 0
+abbrev pub AnswersWith : WaitingResponse → Found → Bool → Option Transition → Type 0
 AnswersWith w found true step = step ≡ None
 AnswersWith w found false None = ⊥
 AnswersWith w found false (Some step) = IsAnswered w found step.output
 
--- The job was found so in the table: while it is unfinished and the deadline is still to come the response waits on, and else it
--- shows the job as it was found.
-pub record AnswersJob (now : Option ℕ) (w : WaitingResponse) (step : Option Transition) : Type 0 where
-  pub found : Result Job JobFault
-  pub gets : IsGetResult w.id found
+-- The job or the plan was found so in the table: while it is unfinished and the deadline is still to come the response waits on, and else
+-- it shows the job or the plan as it was found.
+pub record AnswersWait (now : Option ℕ) (w : WaitingResponse) (step : Option Transition) : Type 0 where
+  pub found : Found
+  pub gets : IsFound w.awaited found
   pub answers : AnswersWith w found (has_time now w.deadline_ms && is_unfinished found) step
 
 -- .. of a connection
-abbrev pub StaysOrAnswers : WaitingResponse → Result Job JobFault → Bool → ConnectionState → List ℕ → Type 0
+abbrev pub StaysOrAnswers : WaitingResponse → Found → Bool → ConnectionState → List ℕ → Type 0
 StaysOrAnswers w found true new pending = new ≡ states.Wait w
 StaysOrAnswers w found false new pending = IsAnswered w found pending
 
 -- where its response waited
 abbrev pub AnswersDue : Option ℕ → ConnectionState → ConnectionState → List ℕ → Type 0
 AnswersDue now (states.Wait w) new pending =
-    (found : Result Job JobFault) × IsGetResult w.id found × StaysOrAnswers w found (has_time now w.deadline_ms && is_unfinished found) new pending
+    (found : Found) × IsFound w.awaited found × StaysOrAnswers w found (has_time now w.deadline_ms && is_unfinished found) new pending
 AnswersDue now state new pending = Unit {0}
 
 -- ---- a connection's wait

@@ -11,11 +11,13 @@ use Rattle.hls_http.specs.{declared.request_action.RequestAction.TheVariants.{In
 use Rattle.hls_http.specs.{Fields.{values, wait_of_values}, Methods.method_of, Requests.fields_of, declared.end.BodyEnd.BodyEnd}
 use Rattle.hls_http.specs.declared.end.DiscardEnd.{DiscardEnd}
 use Rattle.hls_event_loop.specs.declared.activity.ConnectionStage.{ConnectionStage}
-use Rattle.hls_api.specs.{declared.ingest.IngestStop.IngestStop, declared.route.Route.Route, declared.route.IngestTarget.IngestTarget, Acts.Knowledge, Routes.takes_ingest}
+use Rattle.hls_api.specs.{declared.ingest.IngestStop.IngestStop, declared.route.Route.Route, declared.route.IngestTarget.IngestTarget, Acts.Act, Acts.Knowledge, Queries.programme_query_in, Routes.{query_of, takes_ingest}}
 use Rattle.hls_api.specs.Exchanges.{DiscardsBody, params_of, continue_prefix, request_of}
 use Rattle.hls_api.specs.Ingest.{HandlesBody, IngestsPart, ingest_stop_of, no_progress}
 use Rattle.hls_connection.specs.{declared.request_context.RequestContext.RequestContext, declared.ingest_sink.IngestState.IngestState}
-use Rattle.hls_connection.specs.{declared.receive.BodyTarget.BodyTarget, declared.receive.BodyProgress.BodyProgress, declared.receive.ReceivingBody.ReceivingBody, declared.state.WaitingResponse.WaitingResponse, declared.state.WritingResponse.WritingResponse, Waits.may_wait}
+use Rattle.hls_connection.specs.{declared.receive.BodyTarget.BodyTarget, declared.receive.BodyProgress.BodyProgress, declared.receive.ReceivingBody.ReceivingBody, declared.state.WaitingResponse.WaitingResponse, declared.state.WritingResponse.WritingResponse, Waits.awaited_route, Waits.may_wait}
+use Rattle.hls_connection.specs.{declared.state.Awaited.Awaited, Plans.AwaitsPlanOf}
+use Rattle.hls_connection.specs.declared.state.Awaited.TheVariants as awaits
 use Rattle.hls_connection.specs.declared.receive.BodyTarget.TheVariants.{Nothing, Encoder}
 use Rattle.hls_connection.specs.declared.receive.BodyProgress.TheVariants.{More, Wait, TooLarge, Done}
 use Rattle.hls_connection.specs.{IngestStates.IsUsable, IngestStates.progress_of, RequestContexts.IsContextOf, RequestContexts.IsResponse}
@@ -149,14 +151,18 @@ ReceivesFrom old unread new rest progress = (channel : ServedChannel) (stream fi
 abbrev pub preferred_wait : RequestHead → Option ℕ
 preferred_wait h = wait_of_values (values (codes "prefer") (fields_of h))
 
--- a request for a job's status whose body was discarded whole, and whose head lets the response wait; the keeper wasn't asked anything
--- for it
+-- the head lets the response wait for a job, and the keeper wasn't asked anything for it; or the keeper was asked for the plan of a
+-- programme, which was unfinished
+abbrev pub IsAsked : RequestHead → Awaited → List Act → Type 0
+IsAsked h (awaits.Job id) acts = (is_some (preferred_wait h) ≡ true) × (acts ≡ [])
+IsAsked h (awaits.Plan plan) acts = AwaitsPlanOf (programme_query_in plan.start plan.stop (query_of h.target)) [] acts plan.request
+
+-- a request for a job's status or for a programme, whose body was discarded whole, and whose response may wait
 pub record IsWaiting (channel : ServedChannel) (stream first : List ℕ) (w : WaitingResponse) (unread : List ℕ) : Type 0 where
   pub last : BodyFraming
-  pub discarded : IsDiscarded channel stream first w.context (routes.Job w.id) last unread (Ok tt)
-  pub prefers : is_some (preferred_wait discarded.at.head) ≡ true
+  pub discarded : IsDiscarded channel stream first w.context (awaited_route w.awaited) last unread (Ok tt)
   pub waits : may_wait (method_of discarded.at.head.method) ≡ true
-  pub asked : w.acts ≡ []
+  pub asked : IsAsked discarded.at.head w.awaited w.acts
 
 -- ---- a response that is made in parts
 

@@ -111,12 +111,12 @@ pub fn submit<K: Keeper>(keeper: &mut K, acts: &mut ActLog, event: Event) -> Res
     done
 }
 
-/// Reads what is known of the encoders, and notes it.
-pub fn read_encoders<K: Keeper>(keeper: &mut K, acts: &mut ActLog) -> EncoderReadings
+/// Reads what is known of the encoders, for a unit that starts so far after the newest end of all renditions, and notes it.
+pub fn read_encoders<K: Keeper>(keeper: &mut K, acts: &mut ActLog, ahead_us: u64) -> EncoderReadings
     ensures reads { RecordsReading acts.old result acts.new }
     ensures act_steps { ActsExtend K.other_actors (K.known keeper.old) acts.old (K.known keeper.new) acts.new }
 {
-    let readings = keeper.read_encoders();
+    let readings = keeper.read_encoders(ahead_us);
     acts.note_readings(&readings);
     readings
 }

@@ -16,7 +16,7 @@ use hls_core::stepped::Stepped;
 use hls_core_laws::done::Done;
 use hls_core_laws::event::Event;
 use hls_core_laws::refusal::Refusal;
-use hls_jobs::JobTable;
+use hls_jobs::{FoundPlan, JobTable, plan_now};
 use hls_metrics::Measured;
 use hls_playlists::MediaUris;
 use http_server::Log;
@@ -74,7 +74,7 @@ impl Keeper for Alone {
     }
 
     fn rendition_count(&self) -> usize {
-        let _ = self.snapshot.version();
+        let _ = self.snapshot.version(); // the proof needs that the state is well formed
         self.snapshot.config().renditions().len()
     }
 
@@ -117,11 +117,23 @@ impl Keeper for Alone {
         removed
     }
 
+    fn find_or_plan(
+        &self,
+        snapshot: &Arc<Snapshot>,
+        request: Request,
+    ) -> Result<FoundPlan, AllocError> {
+        plan_now(self.alloc, snapshot, request)
+    }
+
+    fn find_plan(&self, request: Request) -> Result<FoundPlan, AllocError> {
+        plan_now(self.alloc, &self.snapshot, request)
+    }
+
     fn job_count(&self) -> usize {
         self.jobs.len()
     }
 
-    fn read_encoders(&mut self) -> EncoderReadings {
+    fn read_encoders(&mut self, _ahead_us: u64) -> EncoderReadings {
         let readings = EncoderReadings::silence();
         self.acts.note_readings(&readings);
         readings

@@ -1,6 +1,6 @@
 //! A thread's handle of a channel that many threads share, and the sessions that it serves.
 
-ghost use Rattle.std.specs.Prelude.{◌≡◌, []};
+ghost use Rattle.std.specs.Prelude.{◌≡◌, ◌≤◌, ℕ, [], length, IsFalse, Some};
 ghost use Rattle.hls_api.specs.{Acts.knowledge_of, OtherActors.Others, PlaylistCache.HasSameListsBefore};
 ghost use Rattle.hls_connection.specs.{FailureCounts.SessionCounts, RunsSession.RunsSession};
 
@@ -17,11 +17,13 @@ use hls_core_laws::done::Done;
 use hls_core_laws::event::Event;
 use hls_core_laws::refusal::Refusal;
 use hls_http::{Session, SessionEnd};
+use hls_jobs::FoundPlan;
 use hls_metrics::Measured;
 use hls_playlists::MediaUris;
 use hls_turn::Pass;
 use http_server::Log;
 use std::alloc::{AllocError, Global};
+use std::cell::Cell;
 use std::io::{Read, Write};
 use std::sync::{Arc, Wait};
 
@@ -43,8 +45,15 @@ pub struct ChannelHandle<'a, T: Wait> {
     /// The time at which its user last read the clock, in milliseconds.
     pub now_ms: u64,
     lists: PlaylistCache,
+    /// The version of the state that the pass saw last, if it is known.
+    seen: u64,
+    /// Whether it isn't: the last event was a repeat or refused, or the last look failed.
+    is_unknown: bool,
+    /// Whether a job was read since the last call of `take_seen`. A job may be of a later state than the pass saw.
+    has_read_job: Cell<bool>,
     ghost ours: { pass.turn ≡ channel.turn.now },
     ghost listed: { HasSameListsBefore lists pass.known.seen },
+    ghost covered: { IsFalse is_unknown → length pass.known.seen.log ≤ seen },
 }
 
 impl<'a, T: Wait> ChannelHandle<'a, T> {
@@ -67,6 +76,21 @@ impl<'a, T: Wait> ChannelHandle<'a, T> {
             acts: ActLog::new(),
             now_ms: 0,
             lists: PlaylistCache::new(alloc),
+            seen: 0,
+            is_unknown: true,
+            has_read_job: Cell::new(false),
+        }
+    }
+
+    /// Returns a version that covers what was made since the last call: that of the state which the pass saw last. There is none if
+    /// that isn't known, or if a job was read meanwhile, which may be of a later state.
+    pub fn take_seen(&self) -> Option<u64>
+        ensures covers { (version : ℕ) → result ≡ Some version → length self.now.pass.known.seen.log ≤ version }
+    {
+        if self.has_read_job.replace(false) || self.is_unknown {
+            None
+        } else {
+            Some(self.seen)
         }
     }
 }
@@ -86,9 +110,14 @@ impl<'a, T: Wait> Keeper for ChannelHandle<'a, T> {
 
     #[tactic(auto, using(hls_api::proofs::Callers::lists_looked))]
     fn look(&mut self) -> Result<Arc<Snapshot>, AllocError> {
+        self.is_unknown = true;
         let turn = self.channel.turn;
         let shown = turn.look(self.rt, self.alloc, &mut self.pass);
         self.acts.note_look(&shown);
+        if let Ok(snapshot) = &shown {
+            self.seen = snapshot.version();
+            self.is_unknown = false;
+        }
         shown
     }
 
@@ -103,10 +132,15 @@ impl<'a, T: Wait> Keeper for ChannelHandle<'a, T> {
 
     #[tactic(auto, using(hls_api::proofs::Callers::lists_submitted))]
     fn submit(&mut self, event: Event) -> Result<Done, Refusal> {
+        self.is_unknown = true;
         let note = Log::new().and(&event, &());
         let turn = self.channel.turn;
         let done = turn.submit(self.rt, self.alloc, &mut self.pass, event);
         self.acts.push(ActNote::Submitted(note, done));
+        if let Ok(Done::New { version }) = done {
+            self.seen = version;
+            self.is_unknown = false;
+        }
         done
     }
 
@@ -118,6 +152,7 @@ impl<'a, T: Wait> Keeper for ChannelHandle<'a, T> {
     }
 
     fn get_job(&self, id: u64) -> Result<Job, JobFault> {
+        self.has_read_job.set(true);
         self.channel.jobs.get(self.rt, id)
     }
 
@@ -127,12 +162,26 @@ impl<'a, T: Wait> Keeper for ChannelHandle<'a, T> {
         removed
     }
 
+    fn find_or_plan(
+        &self,
+        snapshot: &Arc<Snapshot>,
+        request: Request,
+    ) -> Result<FoundPlan, AllocError> {
+        self.has_read_job.set(true);
+        self.channel.jobs.find_or_plan(self.rt, snapshot, request)
+    }
+
+    fn find_plan(&self, request: Request) -> Result<FoundPlan, AllocError> {
+        self.has_read_job.set(true);
+        self.channel.jobs.find_plan(self.rt, request)
+    }
+
     fn job_count(&self) -> usize {
         self.channel.jobs.len(self.rt)
     }
 
-    fn read_encoders(&mut self) -> EncoderReadings {
-        let readings = self.channel.read_encoders(self.now_ms);
+    fn read_encoders(&mut self, ahead_us: u64) -> EncoderReadings {
+        let readings = self.channel.read_encoders(self.now_ms, ahead_us);
         self.acts.note_readings(&readings);
         readings
     }

@@ -1,8 +1,9 @@
 //! Handlers: from a request whose body was discarded, and the channel's keeper, to a response.
 
 ghost use Rattle.std.specs.Prelude.{◌≡◌, Some, None, IfOk, true, false};
-ghost use Rattle.hls_api.specs.Exchanges.{AddsCatchupJob, HandlesCatchup, FinishesRendition, IsForPlayer, IsServedBy, ServesJob, shown_if, shown_to_player};
+ghost use Rattle.hls_api.specs.Exchanges.{AddsCatchupJob, HandlesCatchup, HandlesProgramme, FinishesRendition, IsForPlayer, IsServedBy, ServesJob, shown_if, shown_to_player};
 ghost use Rattle.hls_api.specs.{Exchanges.IsJobResponse, Acts.ActsExtend};
+ghost use Rattle.hls_connection.specs.Plans.{BeginsProgramme};
 ghost use Rattle.hls_connection.specs.RequestContexts.{IsResponse, IsMadeResponse, RespondsBy, ForContext, ForContextAt, ForQuery};
 ghost use Rattle.hls_api.specs.Routes as spec;
 ghost use Rattle.hls_api.specs.Exchanges as exchange;
@@ -12,21 +13,22 @@ use crate::keeper::Keeper;
 use crate::request_context::{QueryResult, RequestContext};
 use hls_api::catchup_query::{CatchupQuery, QueryFault};
 use hls_api::parse_route::{allows_method, is_head_request, job_at, removes_job};
-use hls_api::route::Route;
+use hls_api::route::{ProgrammeFile, Route};
 use hls_api::{
-    Response, SegmentSpan, added_response, fault_response, file_response, finish_response,
-    init_response, job_response, live_master_response, make_request, media_response,
-    method_not_allowed_response, metrics_response, path_master_response, programme_response,
-    query_response, recent_playlist_response, removed_response, resolve_query, run_response,
-    segment_response, since_response, status_response,
+    ProgrammeStart, Response, SegmentSpan, added_response, fault_response, file_response,
+    finish_response, found_plan_response, init_response, invalid_programme_response, job_response,
+    live_master_response, make_request, media_response, method_not_allowed_response,
+    metrics_response, path_master_response, query_response, recent_playlist_response,
+    removed_response, resolve_query, run_response, segment_response, since_response,
+    start_programme, status_response,
 };
-use hls_catchup::{Job, JobFault};
+use hls_catchup::{Job, JobFault, Request};
 use hls_core::snapshot::Snapshot;
 use hls_core_laws::event::Event;
 use hls_core_laws::refusal::Refusal;
 use hls_http::HttpFault;
 use hls_http::range_spec::RangeSpec;
-use hls_jobs::served_version;
+use hls_jobs::{FoundPlan, served_version};
 use hls_playlists::MediaUris;
 use std::alloc::{AllocError, Global};
 use std::sync::Arc;
@@ -154,6 +156,71 @@ fn handle_job<K: Keeper>(
     found_job_response(keeper.alloc(), context, route, id, found)
 }
 
+/// What a request for a programme leads to.
+#[derive(Drop)]
+pub(crate) enum ProgrammeStep {
+    /// Its response.
+    Respond(Response),
+    /// Its plan, for this request, isn't finished.
+    Await(Request),
+}
+
+/// Looks, and returns the response to a query for a programme, unless its plan is unfinished. It is planned if nothing is known of it.
+fn begin_query<K: Keeper>(
+    keeper: &mut K,
+    acts: &mut ActLog,
+    query: CatchupQuery,
+    file: ProgrammeFile,
+) -> Result<ProgrammeStep, AllocError>
+    ensures act_steps { ActsExtend K.other_actors (K.known keeper.old) acts.old (K.known keeper.new) acts.new }
+    ensures begins { BeginsProgramme (Some query) file acts.old acts.new result }
+{
+    let state = look(keeper, acts)?;
+    let alloc = keeper.alloc();
+    let request = match start_programme(alloc, &state, query)? {
+        ProgrammeStart::Planned(request) => request,
+        ProgrammeStart::Refused(response) => return Ok(ProgrammeStep::Respond(response)),
+    };
+    match keeper.find_or_plan(&state, request)? {
+        FoundPlan::Unfinished => Ok(ProgrammeStep::Await(request)),
+        found => Ok(ProgrammeStep::Respond(found_plan_response(alloc, &found, file)?)),
+    }
+}
+
+/// Begins to respond to a request for a programme, whose query was read with its head. An invalid one needs no look.
+pub(crate) fn begin_programme<K: Keeper>(
+    keeper: &mut K,
+    acts: &mut ActLog,
+    query: QueryResult,
+    file: ProgrammeFile,
+) -> Result<ProgrammeStep, AllocError>
+    ensures act_steps { ActsExtend K.other_actors (K.known keeper.old) acts.old (K.known keeper.new) acts.new }
+    ensures begins { ForQuery query (λ said. BeginsProgramme said file acts.old acts.new result) }
+{
+    match query? {
+        Some(query) => begin_query(keeper, acts, query, file),
+        None => Ok(ProgrammeStep::Respond(invalid_programme_response(keeper.alloc())?)),
+    }
+}
+
+/// Responds to a request for a programme at once: 503 if its plan is unfinished.
+fn show_programme<K: Keeper>(
+    keeper: &mut K,
+    acts: &mut ActLog,
+    query: QueryResult,
+    file: ProgrammeFile,
+) -> Result<Response, AllocError>
+    ensures act_steps { ActsExtend K.other_actors (K.known keeper.old) acts.old (K.known keeper.new) acts.new }
+    ensures answers { ForQuery query (λ said. RespondsBy (HandlesProgramme said file) acts.old acts.new result) }
+{
+    match begin_programme(keeper, acts, query, file)? {
+        ProgrammeStep::Respond(response) => Ok(response),
+        ProgrammeStep::Await(_) => {
+            found_plan_response(keeper.alloc(), &FoundPlan::Unfinished, file)
+        }
+    }
+}
+
 /// Handles a route that is no job's, by one of its methods: ends a rendition, adds a job, or responds from one snapshot.
 fn handle_route<K: Keeper>(
     keeper: &mut K,
@@ -171,6 +238,9 @@ fn handle_route<K: Keeper>(
     match route {
         Route::Finish(rendition) => return finish_rendition(keeper, acts, rendition),
         Route::CatchUp => return add_catchup_job(keeper, acts, context.query),
+        Route::Programme(_, _, file) => {
+            return show_programme(keeper, acts, context.query, file);
+        }
         _ => {}
     }
     let state = look(keeper, acts)?;
@@ -192,9 +262,6 @@ fn handle_route<K: Keeper>(
         Route::Metrics => {
             let (jobs, measured) = (keeper.job_count(), keeper.measured());
             metrics_response(keeper.alloc(), &state, jobs, &measured)
-        }
-        Route::Programme(start, stop, file) => {
-            programme_response(keeper.alloc(), state, start, stop, file)
         }
         _ => show_player(keeper, context, route, state),
     }

@@ -5,6 +5,7 @@ ghost use Rattle.hls_core_laws.specs.{IsState.IsState, Moves.IsFittingAsSeen, Pa
 ghost use Rattle.hls_catchup.specs.Jobs.Shared.{HasCounted, HasRemoved};
 ghost use Rattle.hls_api.specs.Acts.{Added, Knowledge, ReadEncoders, RecordsLookResult, Removed, knowledge_after, view_of};
 ghost use Rattle.hls_api.specs.{JobTable.{IsAddResult, IsGetResult}, OtherActors.{MayBecome, OtherActors, HasMet}};
+ghost use Rattle.hls_jobs.specs.Plans.{HasAddedPlan, HasFoundPlan};
 ghost use Rattle.hls_api.specs.Acts as acts;
 ghost use Rattle.hls_api.specs.Players.{live_list_answer};
 ghost use Rattle.hls_api.specs.Responses as replies;
@@ -16,6 +17,7 @@ use hls_core::snapshot::Snapshot;
 use hls_core_laws::done::Done;
 use hls_core_laws::event::Event;
 use hls_core_laws::refusal::Refusal;
+use hls_jobs::FoundPlan;
 use hls_metrics::Measured;
 use hls_playlists::MediaUris;
 use std::alloc::{AllocError, Global};
@@ -79,12 +81,26 @@ pub trait Keeper {
         ensures known { known self.new ≡ knowledge_after (known self.old) (Removed id result) }
         ensures removes { HasRemoved id result };
 
+    /// Returns what is known of a request's programme; one that nothing is known of is planned from the snapshot, which has it, unless too
+    /// many are.
+    fn find_or_plan(
+        &self,
+        snapshot: &Arc<Snapshot>,
+        request: Request,
+    ) -> Result<FoundPlan, AllocError>
+        ensures { IfOk result (HasAddedPlan request) };
+
+    /// Returns what is known of a request's programme.
+    fn find_plan(&self, request: Request) -> Result<FoundPlan, AllocError>
+        ensures { IfOk result (HasFoundPlan request) };
+
     /// How many jobs there are.
     fn job_count(&self) -> usize
         ensures { HasCounted result };
 
-    /// Returns what is known of the renditions' encoders now. No contract covers it.
-    fn read_encoders(&mut self) -> EncoderReadings
+    /// Returns what is known of the renditions' encoders now, for a unit that starts so far after the newest end of all renditions, in
+    /// microseconds. No contract covers it.
+    fn read_encoders(&mut self, ahead_us: u64) -> EncoderReadings
         ensures { known self.new ≡ knowledge_after (known self.old) (ReadEncoders result) };
 
     /// Returns what the server around the channel measured. No contract covers the numbers.

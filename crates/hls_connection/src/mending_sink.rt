@@ -11,7 +11,7 @@ use crate::act_log::{look, read_encoders, submit};
 use crate::ingest_sink::{IngestSink, IngestState};
 use crate::keeper::Keeper;
 use bytes::Bytes;
-use hls_api::encoder_readings::{is_ahead, is_jump_accepted};
+use hls_api::encoder_readings::{ahead_us, is_ahead, is_jump_accepted};
 use hls_api::ingest::IngestCounts;
 use hls_boxes::Part;
 use hls_core::snapshot::Snapshot;
@@ -155,7 +155,8 @@ impl<K: Keeper> IngestSink<K> {
         if !is_ahead(settings.fill_us, state, facts.start_us) {
             return true;
         }
-        let readings = read_encoders(keeper, &mut taken.acts);
+        let ahead = ahead_us(state, facts.start_us);
+        let readings = read_encoders(keeper, &mut taken.acts, ahead);
         is_jump_accepted(state, self.encoder.rendition, &readings)
     }
 

@@ -5,18 +5,18 @@ ghost use Rattle.std.specs.{Prelude.{◌≡◌, ◌≤◌, ℕ, Some, IfOk, leng
 ghost use Rattle.httparse.specs.{Grammar.RequestHead, Spans.span_bytes};
 ghost use Rattle.hls_http.specs.{declared.framing.BodyFraming.BodyFraming, Actions.announced_len, Actions.action_by};
 ghost use Rattle.hls_http.specs.ReadHeads.{IsHead};
-ghost use Rattle.hls_api.specs.{Exchanges.{params_of, action_for}, Queries.query_in};
-ghost use Rattle.hls_connection.specs.RequestContexts.{IsContextOf};
+ghost use Rattle.hls_api.specs.{Exchanges.{params_of, action_for}};
+ghost use Rattle.hls_connection.specs.RequestContexts.{HasQuery, IsContextOf};
 ghost use Rattle.hls_api.specs.Routes as spec;
 
 use hls_api::catchup_query::CatchupQuery;
 use hls_api::parse_route::{parse_route, takes_ingest};
-use hls_api::read_query;
 use hls_api::route::{Route, ServedChannel};
+use hls_api::{read_programme_query, read_query};
 use hls_http::{ParsedHead, RequestAction, decide_action, split_target};
 use std::alloc::{AllocError, Global};
 
-/// A catch-up query, `None` if it is invalid, or an allocation failure.
+/// The query of a catch-up request or of one for a programme, `None` if it is invalid, or an allocation failure.
 pub type QueryResult = Result<Option<CatchupQuery>, AllocError>;
 
 /// What is kept of a request's head, whose text is gone once its body is read.
@@ -26,7 +26,7 @@ pub struct RequestContext {
     pub head: ParsedHead,
     /// What its path names.
     pub route: Option<Route>,
-    /// The query of a catch-up request, `None` if it is invalid, or an allocation failure.
+    /// The query of a catch-up request or of one for a programme, `None` if it is invalid, or an allocation failure.
     pub query: QueryResult,
 }
 
@@ -37,12 +37,13 @@ fn request_target<'a>(text: &'a [u8], head: &ParsedHead) -> &'a [u8]
     text.get(head.target.start..head.target.end).unwrap_or(b"")
 }
 
-/// Reads the query of a catch-up request. That of another request isn't read.
+/// Reads the query of a catch-up request, or of one for a programme. That of another request isn't read.
 fn read_catchup_query(alloc: Global, route: Option<Route>, text: &[u8]) -> QueryResult
-    ensures { route ≡ Some Route.CatchUp → IfOk result (λ query. query ≡ query_in text.now) }
+    ensures { HasQuery route text.now result }
 {
     match route {
         Some(Route::CatchUp) => read_query(alloc, text),
+        Some(Route::Programme(start, stop, _)) => read_programme_query(alloc, start, stop, text),
         _ => Ok(None),
     }
 }

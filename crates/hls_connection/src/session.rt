@@ -40,8 +40,8 @@ fn read_more<O: Observer, R: Read, W: Write>(
     ensures { (m : OtherActors) (known : Knowledge) → ContinuesRun m (moment R.remaining W.contents machine.old session.old known) result
         (moment R.remaining W.contents machine.new session.new known) }
 {
-    let before = session.source.unread().len();
-    match session.source.read_more() {
+    let before = session.source.input.unread().len();
+    match session.source.input.read_from(&mut session.source.reader) {
         ReadOutcome::Data => {
             machine.note_read(&session.source.input, before, false);
             None

@@ -27,8 +27,9 @@ pub struct SharedChannel<'a> {
 const MILLISECOND: u64 = 1000;
 
 impl<'a> SharedChannel<'a> {
-    /// What is known of the encoders at a moment of the clock, in milliseconds.
-    pub fn read_encoders(&self, now_ms: u64) -> EncoderReadings
+    /// Returns what is known of the encoders at a moment of the clock, in milliseconds, for a unit that starts so far after the newest end of
+    /// all renditions, in microseconds. The contract states nothing: with one, the body isn't checked again at each call.
+    pub fn read_encoders(&self, now_ms: u64, ahead_us: u64) -> EncoderReadings
         ensures { result ≡ result }
     {
         let mut readings = EncoderReadings {
@@ -37,11 +38,31 @@ impl<'a> SharedChannel<'a> {
             heard_us: [0; MOST_RENDITIONS],
             are_ahead: [false; MOST_RENDITIONS],
         };
+        let may_jump = self.may_jump(now_ms, ahead_us);
         for rendition in 0..MOST_RENDITIONS {
-            let heard_ms = self.signs.last_heard_ms(rendition);
+            let heard_ms = self.heard_ms(rendition, may_jump, now_ms);
             readings.heard_us[rendition] = heard_ms.saturating_mul(MILLISECOND);
             readings.are_ahead[rendition] = self.signs.is_ahead(rendition);
         }
         readings
+    }
+
+    /// Whether encoders that fell silent together with all others count as away, for a unit that is ahead: it isn't further ahead than the
+    /// time that has passed since, or another one came some time before ([`EncoderSigns::is_lone_claim_due`]).
+    fn may_jump(&self, now_ms: u64, ahead_us: u64) -> bool {
+        let passed_ms = now_ms.saturating_sub(self.signs.newest_heard_ms());
+        let is_due = self.signs.is_lone_claim_due(now_ms, self.wait_ms);
+        is_due || ahead_us / MILLISECOND <= passed_ms.saturating_add(self.wait_ms)
+    }
+
+    /// When the rendition's encoder was last heard, or now if it fell silent together with all others and doesn't count as away.
+    fn heard_ms(&self, rendition: usize, may_jump: bool, now_ms: u64) -> u64 {
+        let heard_ms = self.signs.last_heard_ms(rendition);
+        let is_missed = self.signs.newest_heard_ms() > heard_ms.saturating_add(self.wait_ms);
+        if is_missed || may_jump {
+            heard_ms
+        } else {
+            now_ms
+        }
     }
 }

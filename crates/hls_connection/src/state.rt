@@ -6,8 +6,10 @@ ghost use Rattle.hls_connection.specs.States.{state_after, step_without_output};
 use crate::act_log::ActLog;
 use crate::receive::ReceivingBody;
 use crate::request_context::RequestContext;
-use hls_api::route::Route;
+use hls_api::catchup_query::TimePoint;
+use hls_api::route::{ProgrammeFile, Route};
 use hls_api::{Response, ResponseBody};
+use hls_catchup::Request;
 use hls_http::SessionEnd;
 use hls_io::SendBuffer;
 
@@ -18,7 +20,7 @@ pub(crate) enum ConnectionState {
     Head,
     /// Receives a request's body.
     Receive(ReceivingBody),
-    /// Waits with a response until a job is finished, after the request's body.
+    /// Waits with a response until a job or a plan is finished, after the request's body.
     Wait(WaitingResponse),
     /// Writes a response that is made in parts, after the request's body.
     Write(WritingResponse),
@@ -26,13 +28,30 @@ pub(crate) enum ConnectionState {
     Ended(SessionEnd),
 }
 
-/// A response that waits until a job is finished, with its request, whose body was received, and the keeper's acts for it: none yet. It
+/// A programme whose plan a response waits for: what its address says, and the plan's request.
+#[derive(Clone, Copy)]
+pub(crate) struct AwaitedPlan {
+    pub start: TimePoint,
+    pub stop: TimePoint,
+    pub file: ProgrammeFile,
+    pub request: Request,
+}
+
+/// What a response waits for.
+#[derive(Clone, Copy)]
+pub(crate) enum Awaited {
+    /// The job of this id.
+    Job(u64),
+    /// The plan of a programme.
+    Plan(AwaitedPlan),
+}
+
+/// A response that waits until a job or a plan is finished, with its request, whose body was received, and the keeper's acts for it. It
 /// holds no thread, and its connection isn't read from.
 #[derive(Drop)]
 pub(crate) struct WaitingResponse {
     pub context: RequestContext,
-    /// The job's id.
-    pub id: u64,
+    pub awaited: Awaited,
     pub acts: ActLog,
     /// When it is answered at the latest, in milliseconds of the clock.
     pub deadline_ms: u64,

@@ -1,25 +1,29 @@
 //! The steps of a connection, from one state to the next. They make no system call, and wait for the keeper alone.
 
 ghost use Rattle.hls_api.specs.declared.route.ServedChannel.{ServedChannel};
-ghost use Rattle.std.specs.Prelude.{◌≡◌, ◌≢◌, ℕ, List, [], ◌<◌, ◌≤◌, Bool, Ok, None, true, false};
+ghost use Rattle.std.specs.Prelude.{◌≡◌, ◌≢◌, ℕ, List, [], ◌<◌, ◌≤◌, Bool, Ok, Option, Some, None, true, false};
 ghost use Rattle.httparse.specs.Grammar.{RequestHead};
 ghost use Rattle.hls_http.specs.Heads.{ReadsLimitedHead};
 ghost use Rattle.hls_api.specs.{Acts.ActsExtend, Exchanges.continue_prefix};
 ghost use Rattle.hls_connection.specs.States.{BeginsBody, HasNoActs, IsHandled, Proceeds, StepStaysConsistent, ReportsProgress, acts_of_step, awaited_state, step_cut_short, step_without_output, steps_of};
 ghost use Rattle.hls_connection.specs.{RequestContexts.IsContextOf, WithinBody.IsDiscardable, WithinBody.IsDiscarded, WithinBody.IsForTarget, WithinBody.ReceivesFrom};
+ghost use Rattle.hls_connection.specs.Waits.{IsDeadline, may_wait};
+ghost use Rattle.hls_api.specs.declared.route.Route.TheVariants as routes;
 ghost use Rattle.hls_connection.specs.declared.state.ConnectionState.TheVariants as states;
 ghost use Rattle.hls_connection.specs.declared.receive.BodyProgress.TheVariants as progresses;
 
 use crate::act_log::ActLog;
 use crate::events::{Observer, SessionEvent, report_some};
-use crate::handlers::handle_request;
+use crate::handlers::{ProgrammeStep, begin_programme, handle_request};
 use crate::ingest_sink::IngestState;
 use crate::keeper::Keeper;
 use crate::receive::{BodyTarget, ReceivingBody};
 use crate::request_context::{RequestContext, action_for, make_context};
 use crate::respond::{refuse_head, refuse_request, respond};
-use crate::state::{ConnectionState, Transition, WaitingResponse, WritingResponse};
-use crate::wait::awaited_job;
+use crate::state::{
+    Awaited, AwaitedPlan, ConnectionState, Transition, WaitingResponse, WritingResponse,
+};
+use crate::wait::{PlanWait, awaited_job, awaited_programme};
 use hls_api::ingest::IngestStop;
 use hls_api::route::{Route, ServedChannel};
 use hls_api::{ingest_refused_response, ingested_response};
@@ -144,6 +148,45 @@ fn step_head<O: Observer>(
 
 // ---- handle
 
+/// Handles a request for a programme whose body was discarded: its response is sent, or waits until the programme is planned.
+fn step_programme<K: Keeper, O: Observer>(
+    context: RequestContext,
+    wait: PlanWait,
+    mut acts: ActLog,
+    keeper: &mut K,
+    observer: &O,
+) -> Transition
+    requires { may_wait context.head.method ≡ true }
+    ensures handles { acts ≡ [] → (channel : ServedChannel) (stream first unread : List ℕ) (last : BodyFraming) → IsDiscarded channel stream first context (routes.Programme wait.start wait.stop wait.file) last unread (Ok tt)
+        → IsHandled channel stream first unread result }
+    ensures act_steps { ActsExtend K.other_actors (K.known keeper.old) acts (K.known keeper.new) (acts_of_step result) }
+    ensures proceeds { (now : Option ℕ) → IsDeadline now None (Some wait.deadline_ms) → Proceeds now 65538 result }
+{
+    let begun = begin_programme(keeper, &mut acts, context.query, wait.file);
+    let alloc = keeper.alloc();
+    match begun {
+        Ok(ProgrammeStep::Await(request)) => {
+            let awaited = AwaitedPlan {
+                start: wait.start,
+                stop: wait.stop,
+                file: wait.file,
+                request,
+            };
+            let waiting = WaitingResponse {
+                context,
+                awaited: Awaited::Plan(awaited),
+                acts,
+                deadline_ms: wait.deadline_ms,
+            };
+            Transition::without_output(ConnectionState::Wait(waiting), true)
+        }
+        Ok(ProgrammeStep::Respond(response)) => {
+            respond(alloc, observer, &context, Ok(response), false, acts)
+        }
+        Err(error) => respond(alloc, observer, &context, Err(error), false, acts),
+    }
+}
+
 /// Handles a request whose body was discarded: its response is sent, made in parts first, or waits. None waits where no time is
 /// given.
 fn step_handle<K: Keeper, O: Observer>(
@@ -163,11 +206,14 @@ fn step_handle<K: Keeper, O: Observer>(
     if let Some((id, deadline_ms)) = awaited_job(&context, route, now) {
         let waiting = WaitingResponse {
             context,
-            id,
+            awaited: Awaited::Job(id),
             acts,
             deadline_ms,
         };
         return Transition::without_output(ConnectionState::Wait(waiting), true);
+    }
+    if let Some(wait) = awaited_programme(&context, route, now) {
+        return step_programme(context, wait, acts, keeper, observer);
     }
     match handle_request(keeper, &mut acts, &context, route) {
         Ok(response) if !response.is_complete() => {

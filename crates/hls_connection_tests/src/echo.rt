@@ -20,7 +20,7 @@ pub fn read_content<R: Read>(
     let mut all = Vec::new(alloc);
     for _ in 0..100u8 {
         match session.body(&mut body) {
-            Ok(BodyRead::Piece) => all.extend_from_slice(session.source.last_taken())?,
+            Ok(BodyRead::Piece) => all.extend_from_slice(session.source.input.last_taken())?,
             Ok(BodyRead::End) => return Ok((all, None)),
             Err(end) => return Ok((all, Some(end))),
         }

@@ -35,6 +35,8 @@ impl Gate for OpenGate {
     }
 
     fn leave(&self, _id: u64) {}
+
+    fn note_planned(&self) {}
 }
 
 /// Two handles of one channel; one of them serves.

@@ -1,8 +1,8 @@
 use Rattle.std.proofs.Common.{◌∙◌, Some, ap, rules, subst, sym}
 use Rattle.hls_api.specs.Acts.{ActsExtend, Knowledge}
 use Rattle.hls_api.specs.Exchanges.{params_of}
-use Rattle.hls_api.specs.Routes.{query_of}
-use Rattle.hls_connection.proofs.PlayerLaws.{responds_to_player, responds_to_programme}
+use Rattle.hls_api.specs.{Queries.query_in, Routes.query_of}
+use Rattle.hls_connection.proofs.PlayerLaws.{responds_to_player}
 use Rattle.hls_connection.proofs.handlers.handle_route.Goals as goal
 
 pub returns-in-Finish-clause-answers : goal.returns-in-Finish-clause-answers
@@ -10,7 +10,7 @@ returns-in-Finish-clause-answers g c = λ channel h context there. rw c.in-Finis
 
 pub returns-in-CatchUp-clause-answers : goal.returns-in-CatchUp-clause-answers
 returns-in-CatchUp-clause-answers g c = λ channel h context there.
-    rw c.in-CatchUp.is (c.add_catchup_job.ensures.answers (query_of h.target) (context.query (there ∙ ap Some c.in-CatchUp.is)))
+    rw c.in-CatchUp.is (c.add_catchup_job.ensures.answers (query_in (query_of h.target)) (rw (there ∙ ap Some c.in-CatchUp.is) at context.query))
 
 pub returns-in-Media-clause-answers : goal.returns-in-Media-clause-answers
 returns-in-Media-clause-answers g c = λ channel h context there.
@@ -18,8 +18,7 @@ returns-in-Media-clause-answers g c = λ channel h context there.
 
 pub returns-in-Programme-clause-answers : goal.returns-in-Programme-clause-answers
 returns-in-Programme-clause-answers g c = λ channel h context there.
-    rw c.in-Programme.is (responds_to_programme (params_of channel h) c.in-Programme.start c.in-Programme.stop c.in-Programme.file c.args.acts.now c.look.new.acts
-    c.in_ok-state.state.value c.programme_response.result c.in_ok-state.ensures.looks c.programme_response.ensures)
+    rw c.in-Programme.is (c.show_programme.ensures.answers _ (rw (there ∙ ap Some c.in-Programme.is) at context.query))
 
 pub returns-in_default-route : goal.returns-in_default-route
 returns-in_default-route g c = record {

@@ -8,5 +8,5 @@ returns c = λ h is.
       text = c.args.text.now;
       head = is;
       route = c.parse_route-route.ensures ∙ ap (route_of c.args.channel) (c.split_target.ensures.path ∙ ap path_of target);
-      query = λ catch. rw (c.split_target.ensures.query, target) at (c.read_catchup_query.ensures catch);
+      query = rw (c.split_target.ensures.query, target) at c.read_catchup_query.ensures;
     }

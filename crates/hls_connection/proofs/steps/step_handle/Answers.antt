@@ -1,6 +1,6 @@
 use Rattle.std.proofs.Common.{◌≡◌, ◌∙◌, Some, ap, arith, inl, inr, refl, sym}
 use Rattle.hls_api.{specs.Exchanges.{continue_prefix, request_of}, proofs.Callers.acted_none}
-use Rattle.hls_connection.proofs.{AnswerLaws.replies_discarded, CallLaws.response_due, CallLaws.sent_acts, CallLaws.sent_proceeds, WaitLaws.awaited_route, WaitLaws.wait_asked, WaitLaws.wait_ends}
+use Rattle.hls_connection.proofs.{AnswerLaws.replies_discarded, CallLaws.response_due, CallLaws.sent_acts, CallLaws.sent_proceeds, WaitLaws.awaited_by_route, WaitLaws.plan_asked, WaitLaws.wait_asked, WaitLaws.wait_ends}
 use Rattle.hls_connection.proofs.steps.step_handle.Goals.{in_default-handle_request-via-in-Ok+else-not-is_complete, in_default-handle_request-via-in-Err-1}
 use Rattle.hls_connection.proofs.steps.step_handle.Goals as goal
 
@@ -35,7 +35,7 @@ returns-in_default-handle_request-clause-proceeds g c = sent_proceeds c.respond.
 pub returns-in-Some-clause-handles : goal.returns-in-Some-clause-handles
 returns-in-Some-clause-handles g c = λ nothing channel stream first unread last x.
     let head = c.args.context.head in
-    let awaited = awaited_route c.args.route _ c.in-Some.id c.in-Some.deadline_ms (sym c.awaited_job.ensures ∙ c.in-Some.is) in
+    let awaited = awaited_by_route c.args.route _ c.in-Some.id c.in-Some.deadline_ms (sym c.awaited_job.ensures ∙ c.in-Some.is) in
     let asked = wait_asked head.method head.wait c.args.now c.in-Some.deadline_ms awaited.1 in
     inr (inr (
       _,
@@ -43,9 +43,8 @@ returns-in-Some-clause-handles g c = λ nothing channel stream first unread last
       record {
         last = last;
         discarded = record { at = x.at; route_is = x.route_is ∙ ap Some awaited.0; discarded = x.discarded };
-        prefers = rw x.at.is_context.head.wait at asked.0;
         waits = rw x.at.is_context.head.method at asked.1;
-        asked = nothing;
+        asked = (rw x.at.is_context.head.wait at asked.0, nothing);
       },
     ))
 
@@ -55,6 +54,22 @@ returns-in-Some-clause-act_steps g c = rw c.without_output.ensures (acted_none _
 pub returns-in-Some-clause-proceeds : goal.returns-in-Some-clause-proceeds
 returns-in-Some-clause-proceeds g c =
     let head = c.args.context.head in
-    let awaited = awaited_route c.args.route _ c.in-Some.id c.in-Some.deadline_ms (sym c.awaited_job.ensures ∙ c.in-Some.is) in
+    let awaited = awaited_by_route c.args.route _ c.in-Some.id c.in-Some.deadline_ms (sym c.awaited_job.ensures ∙ c.in-Some.is) in
     rw c.without_output.ensures
     (record { suits = λ known. tt; continues = refl; few = omega arith; deadline = wait_ends head.method head.wait c.args.now c.in-Some.deadline_ms awaited.1 })
+
+-- ---- a programme
+
+pub step_programme-requires : goal.step_programme-requires
+step_programme-requires g c =
+    (plan_asked c.args.route c.args.context.head.method c.args.now c.in-Some-awaited_programme.wait (sym c.awaited_programme.ensures ∙ c.in-Some-awaited_programme.is)).waits
+
+pub returns-in-Some-awaited_programme-clause-handles : goal.returns-in-Some-awaited_programme-clause-handles
+returns-in-Some-awaited_programme-clause-handles g c = λ nothing channel stream first unread last x.
+    let asked = plan_asked c.args.route c.args.context.head.method c.args.now c.in-Some-awaited_programme.wait (sym c.awaited_programme.ensures ∙ c.in-Some-awaited_programme.is) in
+    c.step_programme.ensures.handles nothing channel stream first unread last (record { at = x.at; route_is = x.route_is ∙ ap Some asked.route_is; discarded = x.discarded })
+
+pub returns-in-Some-awaited_programme-clause-proceeds : goal.returns-in-Some-awaited_programme-clause-proceeds
+returns-in-Some-awaited_programme-clause-proceeds g c =
+    let asked = plan_asked c.args.route c.args.context.head.method c.args.now c.in-Some-awaited_programme.wait (sym c.awaited_programme.ensures ∙ c.in-Some-awaited_programme.is) in
+    c.step_programme.ensures.proceeds c.args.now asked.deadline

@@ -1,0 +1,29 @@
+-- What is sent to requests for programmes.
+use Rattle.hls_api.specs.declared.route.ServedChannel.{ServedChannel}
+use Rattle.std.proofs.Common.{◌≡◌, true, false, ℕ, List, [], Result, Ok, inl, subst}
+use Rattle.httparse.specs.Grammar.{RequestHead}
+use Rattle.hls_http.specs.{declared.framing.BodyFraming.BodyFraming, declared.method.Method.Method, Actions.sends_close}
+use Rattle.hls_api.specs.{Acts.Act, Responses.ResponseData}
+use Rattle.hls_api.specs.Exchanges.{HandlesProgramme, continue_prefix, request_of, to_head}
+use Rattle.hls_api.specs.declared.{catchup_query.TimePoint.TimePoint, route.ProgrammeFile.ProgrammeFile}
+use Rattle.hls_connection.specs.{declared.request_context.RequestContext.RequestContext, declared.state.Transition.Transition}
+use Rattle.hls_connection.specs.{RequestContexts.{ForQuery, IsContextOf, IsDueFor, IsMadeResponse}, States.{IsHandled, RespondsWith}, Waits.may_wait, WithinBody.IsDiscarded}
+use Rattle.hls_connection.proofs.{AnswerLaws.replies_discarded, CallLaws.response_due, PlayerLaws.programme_begun}
+use Rattle.hls_api.specs.declared.route.Route.TheVariants as routes
+
+-- a response to one whose body was discarded
+pub sent_programme : {E : Type 0} {channel : ServedChannel} {stream first unread : List ℕ} {context : RequestContext} {last : BodyFraming} (start stop : TimePoint) (file : ProgrammeFile) (acts : List Act)
+    (response : Result ResponseData E) (step : Transition)
+    → IsDiscarded channel stream first context (routes.Programme start stop file) last unread (Ok tt) → may_wait context.head.method ≡ true
+    → ForQuery context.query (λ said. IsMadeResponse (HandlesProgramme said file [] acts) [] acts response)
+    → ((channel : ServedChannel) (h : RequestHead) (first : List ℕ) → IsContextOf channel h context → RespondsWith (IsDueFor first response (sends_close h false) (to_head h)) first acts step)
+    → IsHandled channel stream first unread step
+sent_programme {channel} start stop file acts response step x may made responds =
+    let request = request_of channel x.at.head in
+    let query = rw x.route_is at x.at.is_context.query in
+    let waits : may_wait request.asks.method ≡ true = subst (λ (m : Method). may_wait m ≡ true) x.at.is_context.head.method may in
+    inl (
+      acts,
+      replies_discarded x acts (λ due is. response_due request (routes.Programme start stop file) acts response due (programme_begun request.asks start stop file acts response waits (made _ query)) is)
+          (responds channel x.at.head (continue_prefix x.at.head request.action) x.at.is_context),
+    )

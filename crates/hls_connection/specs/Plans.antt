@@ -1,0 +1,32 @@
+-- For the proofs of this crate; no public clause cites it.
+-- What a request for a programme leads to.
+use Rattle.std.specs.Prelude.{List, Option, Some, None, Result, Ok, Err}
+use Rattle.hls_jobs.specs.Plans.{HasAddedPlan}
+use Rattle.hls_jobs.specs.declared.plans.FoundPlan.TheVariants.{Unfinished}
+use Rattle.hls_api.specs.Acts.{Act, ActsChangeNothing, RecordsLook}
+use Rattle.hls_api.specs.Exchanges.{HandlesProgramme}
+use Rattle.hls_api.specs.Programmes.{StartsProgramme}
+use Rattle.hls_api.specs.Types.{Request, State}
+use Rattle.hls_api.specs.declared.catchup_query.CatchupQuery.{CatchupQuery}
+use Rattle.hls_api.specs.declared.route.ProgrammeFile.{ProgrammeFile}
+use Rattle.hls_api.specs.declared.programme_responses.ProgrammeStart.TheVariants.{Planned}
+use Rattle.hls_connection.specs.declared.handlers.ProgrammeStep.{ProgrammeStep}
+use Rattle.hls_connection.specs.declared.handlers.ProgrammeStep.TheVariants.{Respond, Await}
+
+-- the state that is seen has the programme, and its plan was unfinished when it was asked for
+pub record AwaitsPlan (query : CatchupQuery) (a b : List Act) (request : Request) : Type 0 where
+  pub state : State
+  pub looks : RecordsLook a state b
+  pub starts : StartsProgramme state query (Planned request)
+  pub added : HasAddedPlan request Unfinished
+
+-- .. of a valid query
+abbrev pub AwaitsPlanOf : Option CatchupQuery → List Act → List Act → Request → Type 0
+AwaitsPlanOf None a b request = ⊥
+AwaitsPlanOf (Some query) a b request = AwaitsPlan query a b request
+
+-- a response; or the plan is awaited; after an allocation failure nothing was done
+abbrev pub BeginsProgramme : {E : Type 0} → Option CatchupQuery → ProgrammeFile → List Act → List Act → Result ProgrammeStep E → Type 0
+BeginsProgramme said file a b (Ok (Respond shown)) = HandlesProgramme said file a b shown
+BeginsProgramme said file a b (Ok (Await request)) = AwaitsPlanOf said a b request
+BeginsProgramme said file a b (Err e) = ActsChangeNothing a b
