@@ -12,10 +12,10 @@ use crate::log_lines::refusal_name;
 use crate::logged_connection::{AccessRecord, LoggedConnection};
 use crate::observer::{ClientObserver, log_slow_response};
 use crate::request_counts::kind_of_request;
-use crate::send_gate::SendGate;
-use crate::watched_handle::WatchedHandle;
+use crate::send_gate::{NeededPoint, SendGate};
 use hls_api::ingest::IngestStop;
 use hls_api::route::Route;
+use hls_connection::channel_handle::ChannelHandle;
 use hls_connection::connection::Connection;
 use hls_connection::events::IngestReport;
 use hls_connection::laws::suits_is_stable;
@@ -43,7 +43,7 @@ const SLOW_MS: u64 = 50;
 pub struct ServerHandler<'a, R: Wait> {
     pub rt: &'a R,
     pub alloc: Global,
-    pub handle: WatchedHandle<'a, R>,
+    pub handle: ChannelHandle<'a, R>,
     /// How far the channel's journal is durable.
     pub durability: &'a Durability,
     /// The names of the renditions, and whether each request is logged.
@@ -71,7 +71,7 @@ impl<'a, R: Wait> ServerHandler<'a, R> {
     /// Counts a response that begins to wait, or ends its wait.
     fn count_waiting(&self, waited: bool, waits: bool) {
         let waiting = self.waiting.get();
-        let all = &self.handle.handle.channel.measurements.waiting_responses;
+        let all = &self.handle.channel.measurements.waiting_responses;
         match (waited, waits) {
             (false, true) => {
                 self.waiting.set(waiting.saturating_add(1));
@@ -89,7 +89,7 @@ impl<'a, R: Wait> ServerHandler<'a, R> {
     fn count_received(&self, read: &io::Result<usize>) {
         if let Ok(count) = read {
             add(
-                &self.handle.handle.channel.measurements.received_bytes,
+                &self.handle.channel.measurements.received_bytes,
                 *count as u64,
             );
         }
@@ -100,9 +100,9 @@ impl<'a, R: Wait> ServerHandler<'a, R> {
     fn count_request(&self, client: &ClientObserver<'a, R>) {
         if let Some(access_line) = client.access_line.get() {
             let kind = kind_of_request(&access_line);
-            self.handle.handle.channel.measurements.count_request(kind);
+            self.handle.channel.measurements.count_request(kind);
             if matches!(access_line.route, Some(Route::Metrics)) {
-                self.handle.handle.channel.turn.tell(self.rt);
+                self.handle.channel.turn.tell(self.rt);
             }
         }
     }
@@ -119,11 +119,11 @@ impl<'a, R: Wait> ServerHandler<'a, R> {
 
     /// Sets what must be durable before the next bytes are sent, and calls the follower if it isn't yet.
     fn set_gate(&self, gate: &mut SendGate, is_exempt: bool, is_receiving: bool)
-        ensures covers { Covers self.now.handle.handle.pass.known.seen gate.new.needed }
+        ensures covers { Covers self.now.handle.pass.known.seen gate.new.needed }
         ensures exempt { gate.new.needed.is_exempt ≡ is_exempt }
     {
         *gate = SendGate {
-            needed: self.handle.find_needed(self.durability, is_exempt),
+            needed: NeededPoint::of_handle(&self.handle, self.durability, is_exempt),
             durable: self.durability.read(),
             is_receiving,
         };
@@ -146,7 +146,7 @@ impl<'a, R: Wait> ServerHandler<'a, R> {
 
     /// Notes a sign of life of an encoder if its body has more units than `before`, and that its last unit was ahead of the channel if it was.
     fn note_ingested(&self, report: IngestReport, before: u64, now_ms: u64) {
-        let signs = self.handle.handle.channel.signs;
+        let signs = self.handle.channel.signs;
         if count_heard(report) > before {
             signs.note_unit(report.rendition, now_ms);
         }
@@ -182,7 +182,7 @@ impl<'a, R: Wait> ServerHandler<'a, R> {
     /// Counts a body that was refused.
     fn count_refusal(&self, ended: IngestReport) {
         if let Some(name) = refusal_name(ended.result) {
-            let measurements = self.handle.handle.channel.measurements;
+            let measurements = self.handle.channel.measurements;
             measurements.count_refusal(name.as_bytes());
         }
     }
@@ -190,7 +190,7 @@ impl<'a, R: Wait> ServerHandler<'a, R> {
     /// Notes the time, and removes unused jobs before one can be used again, if they are removed at all.
     fn note_time(&self, now_ms: u64) {
         if let Some(life_s) = self.settings.server.job_life_s {
-            let jobs = self.handle.handle.channel.jobs;
+            let jobs = self.handle.channel.jobs;
             if jobs.note_time(now_ms) {
                 jobs.remove_unused(self.rt, now_ms, life_s.saturating_mul(1000));
             }
@@ -199,7 +199,7 @@ impl<'a, R: Wait> ServerHandler<'a, R> {
 
     /// Counts units of a body that were mended, and its fillers, since an earlier report of it.
     fn count_repairs(&self, earlier: Option<IngestReport>, report: IngestReport) {
-        let measurements = self.handle.handle.channel.measurements;
+        let measurements = self.handle.channel.measurements;
         let mended = earlier.map_or(0, |earlier| earlier.counts.mended);
         let filled = earlier.map_or(0, |earlier| earlier.counts.filled);
         let counts = report.counts;
@@ -303,10 +303,10 @@ impl<'a, R: Wait + Clock + Eprint> ServerHandler<'a, R> {
 impl<'a, R: Wait + Clock + Eprint> Handler for ServerHandler<'a, R> {
     type Connection = LoggedConnection;
 
-    ghost valid = { λ handler logged. KeeperSuits (knowledge_of handler.handle.handle.pass.known handler.handle.handle.acts) logged.connection };
+    ghost valid = { λ handler logged. KeeperSuits (knowledge_of handler.handle.pass.known handler.handle.acts) logged.connection };
 
-    ghost becomes = { λ a before traffic b now. ServesHeld (knowledge_of a.handle.handle.pass.known a.handle.handle.acts) before traffic
-        (knowledge_of b.handle.handle.pass.known b.handle.handle.acts) now };
+    ghost becomes = { λ a before traffic b now. ServesHeld (knowledge_of a.handle.pass.known a.handle.acts) before traffic
+        (knowledge_of b.handle.pass.known b.handle.acts) now };
 
     ghost is_new = { λ logged. history logged.connection ≡ new_history };
 
@@ -327,10 +327,7 @@ impl<'a, R: Wait + Clock + Eprint> Handler for ServerHandler<'a, R> {
     ghost out_of_memory_reply = { out_of_memory_text };
 
     fn open(&self) -> LoggedConnection {
-        add(
-            &self.handle.handle.channel.measurements.accepted_connections,
-            1,
-        );
+        add(&self.handle.channel.measurements.accepted_connections, 1);
         LoggedConnection {
             connection: Connection::new(
                 &self.handle,
@@ -355,7 +352,7 @@ impl<'a, R: Wait + Clock + Eprint> Handler for ServerHandler<'a, R> {
         }
         let client = self.observer(peer);
         let started_ms = monotonic_ms(self.rt);
-        self.handle.handle.now_ms = started_ms;
+        self.handle.now_ms = started_ms;
         let waited = logged.connection.is_waiting();
         let before = logged.connection.ingest_progress();
         self.note_time(started_ms);
@@ -390,10 +387,7 @@ impl<'a, R: Wait + Clock + Eprint> Handler for ServerHandler<'a, R> {
             return;
         }
         logged.connection.mark_sent(count);
-        add(
-            &self.handle.handle.channel.measurements.sent_bytes,
-            count as u64,
-        );
+        add(&self.handle.channel.measurements.sent_bytes, count as u64);
         self.note_sent(&mut logged.access, count, logged.connection.wants_write());
     }
 
@@ -445,7 +439,7 @@ impl<'a, R: Wait + Clock + Eprint> Handler for ServerHandler<'a, R> {
         }
     }
 
-    ghost unchanged = { λ handler logged. serves_nothing (knowledge_of handler.handle.handle.pass.known handler.handle.handle.acts) logged };
+    ghost unchanged = { λ handler logged. serves_nothing (knowledge_of handler.handle.pass.known handler.handle.acts) logged };
 
     ghost composed = { λ a b c u v w s t first second. serves_on s t first second };
 }

@@ -16,7 +16,6 @@ mod request_counts;
 mod send_gate;
 mod server;
 mod startup;
-mod watched_handle;
 
 pub use follower::{FollowFault, NoFollower, StateFollower};
 pub use log_lines::{AccessLine, IngestLine};

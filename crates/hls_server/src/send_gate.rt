@@ -1,9 +1,11 @@
 //! What holds the bytes of a connection back until their state is durable.
 
 ghost use Rattle.std.specs.Prelude.{◌≡◌};
-ghost use Rattle.hls_server.specs.SendGates.{is_behind, is_closed};
+ghost use Rattle.hls_server.specs.SendGates.{Covers, is_behind, is_closed};
 
-use crate::durability::DurablePoint;
+use crate::durability::{Durability, DurablePoint};
+use hls_connection::channel_handle::ChannelHandle;
+use std::sync::Wait;
 
 /// How far a journal must be durable before bytes are sent.
 #[derive(Clone, Copy, Drop)]
@@ -14,6 +16,33 @@ pub struct NeededPoint {
     pub round: u64,
     /// Whether nothing must be durable, since the response shows no media: a report for operators, or a refusal.
     pub is_exempt: bool,
+}
+
+impl NeededPoint {
+    /// How far the journal must be durable before the bytes that were made by a handle until now may be sent. Nothing must be for an
+    /// exempt response.
+    pub fn of_handle<T: Wait>(
+        handle: &ChannelHandle<'_, T>,
+        durability: &Durability,
+        is_exempt: bool,
+    ) -> NeededPoint
+        ensures covers { Covers handle.now.pass.known.seen result }
+        ensures exempt { result.is_exempt ≡ is_exempt }
+    {
+        let (version, round) = if is_exempt {
+            (0, 0)
+        } else {
+            match handle.take_seen() {
+                Some(version) => (version, 0),
+                None => (0, durability.next_round()),
+            }
+        };
+        NeededPoint {
+            version,
+            round,
+            is_exempt,
+        }
+    }
 }
 
 /// How many versions the journal may be behind before encoders' bodies aren't read: what isn't written is held in memory.

@@ -6,7 +6,6 @@ use crate::durability::Durability;
 use crate::follower::{FollowerContext, StateFollower, run_follower};
 use crate::handler::ServerHandler;
 use crate::limits::{connection_count, waiting_limit, worker_count};
-use crate::watched_handle::WatchedHandle;
 use hls_connection::channel_handle::ChannelHandle;
 use hls_connection::shared_channel::SharedChannel;
 use hls_core::snapshot::Snapshot;
@@ -18,6 +17,7 @@ use hls_housekeeper::{
 use hls_jobs::{Gate, Jobs, work_loop};
 use hls_mend::EncoderSigns;
 use hls_metrics::Measurements;
+use hls_metrics::measurements::add;
 use hls_settings::{Settings, ThreadSettings};
 use hls_time::monotonic_ms;
 use hls_turn::{Pass, Turn};
@@ -59,6 +59,17 @@ pub struct ServerStart<'a, F> {
     pub refuses_encoders: bool,
 }
 
+/// How much workers serve, by the options and the limit of open files.
+#[derive(Clone, Copy)]
+struct ThreadLimits {
+    /// The most workers.
+    worker_count: u64,
+    /// How many connections a worker holds at most.
+    connection_count: u64,
+    /// How many responses of a worker wait at most.
+    most_waiting: u64,
+}
+
 /// What the threads of a server share.
 #[derive(Clone, Copy)]
 struct ServerContext<'a> {
@@ -69,12 +80,9 @@ struct ServerContext<'a> {
     channel: &'a SharedChannel<'a>,
     /// The listener of the workers.
     listener: &'a TcpListener,
-    /// The most workers.
-    worker_count: u64,
+    limits: ThreadLimits,
     /// What the workers know of each other.
     worker_loads: &'a WorkerLoads,
-    /// How many responses of a worker wait at most.
-    most_waiting: u64,
     throttle: &'a LogThrottle,
     /// Whether all workers have ended.
     closed: &'a AtomicBool,
@@ -82,11 +90,12 @@ struct ServerContext<'a> {
     durability: &'a Durability,
 }
 
-/// Wakes responses that wait for a job whenever one ends. Once the workers are to end, no further job runs.
+/// Wakes responses that wait for a job or a plan whenever one ends, and counts plans. Once the workers are to end, no further job runs.
 #[derive(Drop)]
 struct WakingGate<'a, R> {
     rt: &'a R,
     worker_loads: &'a WorkerLoads,
+    measurements: &'a Measurements,
 }
 
 impl<'a, R: Clock> Gate for WakingGate<'a, R> {
@@ -101,6 +110,11 @@ impl<'a, R: Clock> Gate for WakingGate<'a, R> {
     fn leave(&self, _id: u64) {
         self.worker_loads.wake_waiting();
     }
+
+    fn note_planned(&self) {
+        add(&self.measurements.programme_plans, 1);
+        self.worker_loads.wake_waiting();
+    }
 }
 
 impl<'a> ServerStatus for ServerContext<'a> {
@@ -108,12 +122,8 @@ impl<'a> ServerStatus for ServerContext<'a> {
         self.channel.jobs.len(rt)
     }
 
-    fn last_heard_ms(&self, rendition: usize) -> u64 {
-        self.channel.signs.last_heard_ms(rendition)
-    }
-
-    fn is_ahead(&self, rendition: usize) -> bool {
-        self.channel.signs.is_ahead(rendition)
+    fn signs(&self) -> &EncoderSigns {
+        self.channel.signs
     }
 
     fn measurements(&self) -> &Measurements {
@@ -196,8 +206,8 @@ where
     }
     let jobs = Jobs::starting_at(alloc, first_job)?;
     let measurements = Measurements::new(alloc)?;
-    let files = open_file_limit();
-    let worker_loads = make_loads(alloc, workers, files, connections)?;
+    let limits = find_limits(workers);
+    let worker_loads = make_loads(alloc, limits, connections)?;
     let signs = EncoderSigns::new();
     let channel = SharedChannel {
         turn: &turn,
@@ -213,16 +223,30 @@ where
         settings,
         channel: &channel,
         listener,
-        worker_count: worker_count(workers, files),
+        limits,
         worker_loads: &worker_loads,
-        most_waiting: waiting_limit(workers, files),
         throttle: &throttle,
         closed: &closed,
         durability: &durability,
     };
-    tune_listener(listener);
-    let ran = run_threads(rt, &context, passes, journal);
-    let _ = listener.set_nonblocking(false);
+    run_listening(rt, &context, passes, journal)
+}
+
+/// Runs the threads of a server. Accepts on its listener don't block meanwhile.
+fn run_listening<R: Net<Listener = TcpListener, Stream = TcpStream>, F: StateFollower + Send>(
+    rt: &R,
+    context: &ServerContext<'_>,
+    passes: Vec<Pass>,
+    journal: Option<ServerJournal<F>>,
+) -> Result<(), AllocError>
+where
+    R: Threads + Wait + Clock + Eprint + Env + Sync,
+    F: Drop,
+    requires { All (λ p. p.turn ≡ context.now.channel.now.turn.now) passes.items }
+{
+    tune_listener(context.listener);
+    let ran = run_threads(rt, context, passes, journal);
+    let _ = context.listener.set_nonblocking(false);
     ran
 }
 
@@ -235,18 +259,24 @@ fn find_durability(snapshot: &Snapshot, has_journal: bool) -> Durability {
     }
 }
 
+/// Returns how much workers serve.
+fn find_limits(workers: ThreadSettings) -> ThreadLimits {
+    let files = open_file_limit();
+    ThreadLimits {
+        worker_count: worker_count(workers, files),
+        connection_count: connection_count(workers, files),
+        most_waiting: waiting_limit(workers, files),
+    }
+}
+
 /// Makes what the workers know of each other.
 fn make_loads(
     alloc: Global,
-    workers: ThreadSettings,
-    files: u64,
+    limits: ThreadLimits,
     connections: Option<u64>,
 ) -> Result<WorkerLoads, AllocError> {
-    let (count, held) = (
-        worker_count(workers, files),
-        connection_count(workers, files),
-    );
-    match WorkerLoads::new(alloc, count, held, connections.unwrap_or(u64::MAX)) {
+    let most = connections.unwrap_or(u64::MAX);
+    match WorkerLoads::new(alloc, limits.worker_count, limits.connection_count, most) {
         Ok(worker_loads) => Ok(worker_loads),
         Err(_) => Err(AllocError),
     }
@@ -261,17 +291,16 @@ fn run_worker_thread<R: Wait + Clock + Eprint>(
 )
     requires { pass.turn ≡ context.now.channel.now.turn.now }
 {
-    let handle = ChannelHandle::new(rt, context.alloc, context.channel, pass);
     let handler = ServerHandler {
         rt,
         alloc: context.alloc,
-        handle: WatchedHandle::new(handle),
+        handle: ChannelHandle::new(rt, context.alloc, context.channel, pass),
         durability: context.durability,
         settings: context.settings,
         throttle: context.throttle,
         worker_loads: context.worker_loads,
         waiting: Cell::new(0),
-        most_waiting: context.most_waiting,
+        most_waiting: context.limits.most_waiting,
     };
     let idle_timeout_s = context.settings.server.workers.idle_timeout_s;
     if let Err(error) = run_worker(
@@ -339,7 +368,7 @@ where
     requires { All (λ p. p.turn ≡ context.now.channel.now.turn.now) passes.items }
 {
     for pass in passes {
-        if started.len() as u64 >= context.worker_count {
+        if started.len() as u64 >= context.limits.worker_count {
             continue;
         }
         let Ok(io) = WorkerIo::listen_on(rt, context.alloc, context.listener) else {
@@ -369,6 +398,7 @@ fn start_planners<'s, E, R: Wait + Clock + Sync>(
         let gate = WakingGate {
             rt,
             worker_loads: context.worker_loads,
+            measurements: context.channel.measurements,
         };
         let planner = scope.spawn(move || work_loop(rt, alloc, jobs, &gate));
         if planner.is_ok() {
