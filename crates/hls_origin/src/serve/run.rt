@@ -3,7 +3,7 @@ ghost use Rattle.std.specs.Prelude.{map};
 ghost use Rattle.hls_origin.specs.ServeRun.{EndsServe, IsServed};
 
 use crate::serve::generate_run::generate_run;
-use crate::serve::journal_follower::JournalFollower;
+use crate::serve::journal_follower::{JournalFollower, NextStart};
 use crate::serve::load_base::{BaseFileFault, load_base};
 use crate::serve::open_journal::{ChannelJournal, ChannelStart, JournalStop, open_journal};
 use hls_core::base::Base;
@@ -20,7 +20,7 @@ use std::io::Eprint;
 use std::net::{Ipv4Addr, Net, SocketAddrV4, TcpListener, TcpStream};
 use std::rt::{Env, Files};
 use std::sync::atomic::AtomicU64;
-use std::sync::Wait;
+use std::sync::{Arc, Wait};
 use std::thread::Threads;
 use std::time::Clock;
 
@@ -126,48 +126,153 @@ fn start_channel(
     Ok(start)
 }
 
-/// Returns what the server of a channel starts with.
-fn start_server<'a>(
-    host: &'a HostRuntime,
+/// Serves a channel. Each time its log is replaced, the server ends and the next one begins on the same listener.
+fn serve_logs<R>(
+    rt: &R,
+    host: &HostRuntime,
     alloc: Global,
+    settings: &Settings,
+    listener: &TcpListener,
     start: ChannelStart,
-) -> ServerStart<'a, JournalFollower<'a>> {
+) -> ServeEnd
+where
+    R: Net<Listener = TcpListener, Stream = TcpStream>
+        + Threads
+        + Wait
+        + Clock
+        + Eprint
+        + Env
+        + Sync,
+    ensures { IsServed result }
+{
     let ChannelStart {
         snapshot,
         first_job,
-        journal,
+        mut journal,
     } = start;
-    let followed = match journal {
-        Some(journal) => Some(ServerJournal {
-            follower: JournalFollower {
+    let mut channel = ServerChannel {
+        snapshot,
+        first_job,
+        renew_from: 0,
+        is_lost: false,
+    };
+    for _ in rt.forever() {
+        let mut next = None;
+        let start = start_server(host, alloc, channel, &mut journal, &mut next);
+        if run_server(rt, alloc, settings, listener, None, start).is_err() {
+            return ServeEnd::Memory;
+        }
+        let Some(next) = next else {
+            return ServeEnd::Done;
+        };
+        channel = match ServerChannel::from_next(next) {
+            Some(channel) => channel,
+            None => return ServeEnd::Memory,
+        };
+    }
+    unreachable!()
+}
+
+/// The channel that a server starts with.
+#[derive(Drop)]
+struct ServerChannel {
+    snapshot: Snapshot,
+    /// The first id of a job.
+    first_job: u64,
+    /// The length of the log from which on it is replaced.
+    renew_from: u64,
+    /// Whether its journal is lost. The folder stays locked.
+    is_lost: bool,
+}
+
+impl ServerChannel {
+    /// What a server left for the next one; none if something still holds the snapshot.
+    fn from_next(next: NextStart) -> Option<ServerChannel> {
+        match Arc::try_unwrap(next.snapshot) {
+            Ok(snapshot) => Some(ServerChannel {
+                snapshot,
+                first_job: next.first_job,
+                renew_from: next.renew_from,
+                is_lost: next.is_lost,
+            }),
+            Err(_) => None,
+        }
+    }
+}
+
+/// Returns the journal of a server that follows a channel whose journal isn't lost.
+fn server_journal<'a>(
+    host: &'a HostRuntime,
+    alloc: Global,
+    (first_job, renew_from): (u64, u64),
+    journal: &'a mut ChannelJournal,
+    next: &'a mut Option<NextStart>,
+) -> ServerJournal<JournalFollower<'a>> {
+    let sync_interval_ms = journal.sync_interval_ms;
+    let refuses_if_lost = journal.refuses_if_lost;
+    let follower = JournalFollower {
+        host,
+        alloc,
+        follower: &mut journal.follower,
+        refuses_if_lost,
+        first_job,
+        renew_from,
+        is_ending: false,
+        is_lost: false,
+        next,
+        logged_at_ms: AtomicU64::new(0),
+    };
+    ServerJournal {
+        follower,
+        sync_interval_ms,
+        refuses_if_lost,
+    }
+}
+
+/// Returns what the server of a channel starts with. It leaves in `next` what the next one starts with.
+fn start_server<'a>(
+    host: &'a HostRuntime,
+    alloc: Global,
+    channel: ServerChannel,
+    journal: &'a mut Option<ChannelJournal>,
+    next: &'a mut Option<NextStart>,
+) -> ServerStart<'a, JournalFollower<'a>> {
+    let ServerChannel {
+        snapshot,
+        first_job,
+        renew_from,
+        is_lost,
+    } = channel;
+    let (refuses_encoders, followed) = match journal {
+        None => (false, None),
+        Some(journal) if is_lost => (journal.refuses_if_lost, None),
+        Some(journal) => (
+            false,
+            Some(server_journal(
                 host,
                 alloc,
-                follower: journal.follower,
-                refuses_if_lost: journal.refuses_if_lost,
-                is_lost: false,
-                logged_at_ms: AtomicU64::new(0),
-            },
-            sync_interval_ms: journal.sync_interval_ms,
-            refuses_if_lost: journal.refuses_if_lost,
-        }),
-        None => None,
+                (first_job, renew_from),
+                journal,
+                next,
+            )),
+        ),
     };
     ServerStart {
         host,
         snapshot,
         first_job,
         journal: followed,
-        refuses_encoders: false,
+        refuses_encoders,
     }
 }
 
 /// Listens, and serves a channel. Logs where it listens.
-fn serve_channel<'a, R>(
+fn serve_channel<R>(
     rt: &R,
-    host: &'a HostRuntime,
+    host: &HostRuntime,
     alloc: Global,
     settings: &Settings,
-    start: ServerStart<'a, JournalFollower<'a>>,
+    start: ChannelStart,
 ) -> ServeEnd
 where
     R: Net<Listener = TcpListener, Stream = TcpStream>
@@ -186,10 +291,7 @@ where
         log_listening(rt, address, settings);
     }
     log_start(&OperatorLog::new(host), alloc, settings);
-    match run_server(rt, alloc, settings, &listener, None, start) {
-        Ok(()) => ServeEnd::Done,
-        Err(_) => ServeEnd::Memory,
-    }
+    serve_logs(rt, host, alloc, settings, &listener, start)
 }
 
 /// Reads the arguments, opens the journal if there is one, listens, and serves; files are the host's. Logs to standard error where it
@@ -228,10 +330,7 @@ where
         Err(fault) => return ServeEnd::Base(fault),
     };
     match start_channel(host, alloc, &settings, folder, journal) {
-        Ok(start) => {
-            let start = start_server(host, alloc, start);
-            serve_channel(rt, host, alloc, &settings, start)
-        }
+        Ok(start) => serve_channel(rt, host, alloc, &settings, start),
         Err(JournalStop::Memory) => ServeEnd::Memory,
         Err(JournalStop::Other) => ServeEnd::OtherJournal,
         Err(JournalStop::Failed) => ServeEnd::JournalFailed,

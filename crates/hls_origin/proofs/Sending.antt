@@ -1,7 +1,6 @@
 -- The follower of a journal may go to a thread of its own. The search doesn't look as deep as the parts of a file that it writes, so
--- these stand here.
+-- they are proved here.
 use denote.Param.Send.{AllSend, IsSend, sendable, recorded_send, struct_send}
-use denote.Ref.{NamedLft}
 use denote.RattleType.{RattleType}
 use denote.Struct.Struct.{Struct}
 use denote.Struct.Declared.{Declared}
@@ -13,10 +12,8 @@ use Rattle.hls_journal_store.below.sqlite_disk.specs.contracts.start.UnknownStar
 use Rattle.hls_journal_store.specs.contracts.log_file.FileCalls as calls
 use Rattle.hls_journal_store.specs.contracts.log_file.FileCallsCalls.TheImpl as impl
 use Rattle.hls_journal_store.specs.contracts.follower.Follower as follower
-use Rattle.hls_origin.specs.contracts.serve.journal_follower.JournalFollower as journal
-use Rattle.hls_origin.proofs.serve.run.serve_channel.Goals as goal
 
-declared_send : (T : Declared) → AllSend (declared.fields T) → IsSend (declared.row T)
+pub declared_send : (T : Declared) → AllSend (declared.fields T) → IsSend (declared.row T)
 declared_send T s = recorded_send (Struct (declared.shape T)) T.D T.to T.to_one (struct_send (declared.shape T) s)
 
 abbrev log_file : RattleType
@@ -28,11 +25,8 @@ calls_send = search (sendable, crosses) depth 30
 log_send : IsSend log_file
 log_send = search (sendable, crosses, calls_send) depth 30
 
-follower_send : (D : RattleType) → IsSend D → IsSend (Struct (declared.shape (follower.the_type D)))
-follower_send D d = struct_send (declared.shape (follower.the_type D)) (search (sendable, crosses) depth 30, (search (sendable, crosses) depth 30, (search (sendable, crosses) depth 30, (search (sendable, crosses) depth 30, (search (sendable, crosses) depth 30, (search (sendable, crosses) depth 30, (search (sendable, crosses) depth 30, (search (sendable, crosses) depth 30, (search (sendable, crosses) depth 30, tt)))))))))
+follower_send : (D : RattleType) → IsSend D → IsSend (follower.the_row D)
+follower_send D d = declared_send (follower.the_type D) (search (sendable, crosses) depth 30, (search (sendable, crosses) depth 30, (search (sendable, crosses) depth 30, (search (sendable, crosses) depth 30, (search (sendable, crosses) depth 30, (search (sendable, crosses) depth 30, (search (sendable, crosses) depth 30, (search (sendable, crosses) depth 30, (search (sendable, crosses) depth 30, tt)))))))))
 
-journal_send : (a : NamedLft) → IsSend (journal.the_row a)
-journal_send a = declared_send (journal.the_type a) (search (sendable, crosses) depth 30, (search (sendable, crosses) depth 30, (follower_send log_file log_send, (search (sendable, crosses) depth 30, (search (sendable, crosses) depth 30, (search (sendable, crosses) depth 30, tt))))))
-
-pub run_server-requires-send-F : goal.run_server-requires-send-F
-run_server-requires-send-F g c κs within = search (sendable, journal_send)
+pub store_send : IsSend (follower.the_row log_file)
+store_send = follower_send log_file log_send
