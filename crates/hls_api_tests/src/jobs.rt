@@ -85,6 +85,7 @@ pub fn outcome_of_loop<T: Wait>(
     outcome.require_unchanged(is_only_job(rt, jobs, id))
 }
 
+/// A job table, also if the first attempt to allocate it fails.
 pub fn jobs_with_retry(alloc: Global) -> Option<Jobs> {
     match Jobs::new(alloc) {
         Ok(jobs) => Some(jobs),

@@ -46,7 +46,7 @@ pub fn outcome_of_session(alloc: Global) -> CallOutcome {
 }
 
 pub fn outcome_of_bytes(alloc: Global) -> CallOutcome {
-    match write_head(alloc, &head(), 3) {
+    match write_head(alloc, &head(), 3, 0) {
         Ok(bytes) => CallOutcome::from_answer(bytes.as_slice() == head_text()),
         Err(_) => CallOutcome::OutOfMemory,
     }
@@ -61,7 +61,7 @@ pub fn outcome_of_refusal(alloc: Global) -> CallOutcome {
 
 pub fn outcome_of_source(alloc: Global) -> CallOutcome {
     match BufferedReader::new(alloc, b"abc".as_slice()) {
-        Ok(source) => CallOutcome::from_answer(source.unread().is_empty()),
+        Ok(source) => CallOutcome::from_answer(source.input.unread().is_empty()),
         Err(_) => CallOutcome::OutOfMemory,
     }
 }
