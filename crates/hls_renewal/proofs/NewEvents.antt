@@ -199,11 +199,10 @@ media_new a s r n l rec state here is fresh room =
     next_at s e r no_lane new fresh ∙ ap (λ (b : Bool). Some (chosen b begun no_lane)) same in
     let old : AreInTime rec.init (length rec.head) (drop n l.facts) =
     subst (λ (k : ℕ). AreInTime rec.init k (drop n l.facts)) is.size (later_ones rec.init l.size n l.facts (recorded_in_time a r l rec.init state here.at is.init)) in
-    let in_time : AreInTime rec.init (length rec.head) (drop n rec.facts) = in_units rec.init (length rec.head) _ _ old (ap (λ fs. drop n fs) (sym is.facts)) in
-    (
+    let in_time : AreInTime rec.init (length rec.head) (drop n rec.facts) = in_units rec.init (length rec.head) _ _ old (ap (λ fs. drop n fs) (sym is.facts)) in (
       new,
       units_new (next_state s 0 (Begin r rec.init rec.head)) r rec n count begun rec.init there refl refl kept (omega (arith, long, here.high)) in_time
-      (omega (arith, room, few, next_entries s e new)),
+          (omega (arith, room, few, next_entries s e new)),
     )
 
 end_new : (s : State) (r : ℕ) (l : Lane) (init : InitData) (finished : Bool) → slice_get (channel s).lanes r ≡ Some l → l.init ≡ Some init → l.finished ≡ false

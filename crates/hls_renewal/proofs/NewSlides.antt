@@ -211,8 +211,7 @@ module _ (a : State) (cut : LineCut) (state : IsState a) (first : first_cut a �
     slide_new (suc n) is room =
         let count = length-drop cut.segments (segments_over (line_goal_of a.config) (sources a)) in
         let since = since_count (cut.place).spots (drop cut.segments (segments_over (line_goal_of a.config) (sources a))) in
-        let few : suc n ≤ length (segments_of (line (middle a cut))) = omega (arith, is, removed_within a state, ap length kept_segments, since, count) in
-        (
+        let few : suc n ≤ length (segments_of (line (middle a cut))) = omega (arith, is, removed_within a state, ap length kept_segments, since, count) in (
           ap (λ m. slide m (length (middle a cut).log)) (may_ok (line (middle a cut)) n (slid_long n is) few) ∙ has_room (length (middle a cut).log) (omega (arith, room)),
           tt,
         )

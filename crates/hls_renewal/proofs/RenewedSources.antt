@@ -180,8 +180,8 @@ module _ (a b : State) (cut : LineCut) (on : IsContinued a b cut) (state : IsSta
         here.there,
         mine,
         ap (λ (c : ConfigData). (line_of (line_goal_of c) (places b)).segments) on.config
-        ∙ ap (λ (ps : List Place). (line_of (line_goal_of a.config) ps).segments) mine
-        ∙ here.segments,
+            ∙ ap (λ (ps : List Place). (line_of (line_goal_of a.config) ps).segments) mine
+            ∙ here.segments,
         here.after_cut,
       )
 

@@ -248,13 +248,7 @@ fn start_server<'a>(
         Some(journal) if is_lost => (journal.refuses_if_lost, None),
         Some(journal) => (
             false,
-            Some(server_journal(
-                host,
-                alloc,
-                (first_job, renew_from),
-                journal,
-                next,
-            )),
+            Some(server_journal(host, alloc, (first_job, renew_from), journal, next)),
         ),
     };
     ServerStart {
