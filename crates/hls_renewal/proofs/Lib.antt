@@ -21,3 +21,7 @@ pub mod EventCounts
 pub mod NewEvents
 pub mod LongLines
 pub mod NewSlides
+pub mod PlacesSince
+pub mod PlansSince
+pub mod JobListsSince
+pub mod RenewedProgrammes

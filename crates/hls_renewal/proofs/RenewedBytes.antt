@@ -106,21 +106,20 @@ own_end r (Some true) h = refl
 own_end r (Some false) h = refl
 
 -- what rendition r keeps of a state from unit n on
-abbrev units_by : Option RecordingData → ℕ → List (List ℕ)
-units_by None n = []
-units_by (Some rec) n = drop (n - rec.floor) rec.units
+abbrev pub held_by : Option RecordingData → ℕ → HeldBytes
+held_by None n = no_bytes
+held_by (Some rec) n = record { head = rec.head; units = drop (n - rec.floor) rec.units }
 
 own_media : (a : State) (r n : ℕ) (l : Lane) (o : Option RecordingData) → IsState a → IsCutHere a r n l → recording_of a r ≡ o
-    → (run held_after r (media_from r o n) no_bytes).units ≡ units_by o n
+    → run held_after r (media_from r o n) no_bytes ≡ held_by o n
 own_media a r n l None state here found = refl
 own_media a r n l (Some rec) state here found =
     let same : (r == r) ≡ true = eq-eqb r r refl in
     let is = whole_of a r l rec state here.at found in
     let long : length rec.facts ≡ length l.facts = ap length is.facts in
     let kept = kept_units l.floor n rec is.floor is.count here.low in
-    ap (λ (b : Bool). (run held_after r (units_from r rec n (length rec.facts - n)) (chosen b (begun_with rec.head no_bytes) no_bytes)).units) same
-    ∙ ap (λ (h : HeldBytes). h.units)
-    (own_units r rec n (length rec.facts - n) (begun_with rec.head no_bytes) same kept (omega (arith, is.floor, here.low)) is.count (omega (arith, long, here.high)))
+    ap (λ (b : Bool). run held_after r (units_from r rec n (length rec.facts - n)) (chosen b (begun_with rec.head no_bytes) no_bytes)) same
+    ∙ own_units r rec n (length rec.facts - n) (begun_with rec.head no_bytes) same kept (omega (arith, is.floor, here.low)) is.count (omega (arith, long, here.high))
 
 -- ---- the renewed channel
 
@@ -130,8 +129,8 @@ no_bytes_at a cut r l at =
     let there = some_at a.config.renditions r within in
     at_map no_bytes_of a.config.renditions r there.0 there.1
 
-held_of : (a b : State) (renews : Renews a b) → IsState a → (r : ℕ) (l : Lane) (g : HeldBytes) → slice_get (channel a).lanes r ≡ Some l → slice_get b.bytes r ≡ Some g
-    → g.units ≡ units_by (recording_of a r) (cut_unit (renews.cut).place r)
+pub held_of : (a b : State) (renews : Renews a b) → IsState a → (r : ℕ) (l : Lane) (g : HeldBytes) → slice_get (channel a).lanes r ≡ Some l → slice_get b.bytes r ≡ Some g
+    → g ≡ held_by (recording_of a r) (cut_unit (renews.cut).place r)
 held_of a b renews state r l g at there =
     let cut = renews.cut in
     let start = renewal_start a cut in
@@ -146,7 +145,7 @@ held_of a b renews state r l g at there =
     ∙ own_end r (finished_at a r) (run held_after r (media_from r (recording_of a r) n) no_bytes) in
     let same : run held_after r (renewal_events a cut) no_bytes ≡ g =
     some_same _ g (sym all ∙ ap (λ (x : State). slice_get x.bytes r) (sym renews.is) ∙ there) in
-    ap (λ (x : HeldBytes). x.units) (sym same ∙ mine ∙ own) ∙ own_media a r n l (recording_of a r) state spot.1 refl
+    sym same ∙ mine ∙ own ∙ own_media a r n l (recording_of a r) state spot.1 refl
 
 none_kept : (k : ℕ) (y : List ℕ) (units : List (List ℕ)) → units ≡ [] → slice_get units k ≡ Some y → ⊥
 none_kept k y units none at =
@@ -154,7 +153,7 @@ none_kept k y units none at =
     cc
 
 same_units : (a : State) (r n : ℕ) (l m : Lane) (h g : HeldBytes) (o : Option RecordingData) → IsState a → IsCutHere a r n l → slice_get a.bytes r ≡ Some h → m.floor ≡ 0
-    → recording_of a r ≡ o → g.units ≡ units_by o n → SameUnitsFrom n l m h g
+    → recording_of a r ≡ o → g.units ≡ (held_by o n).units → SameUnitsFrom n l m h g
 same_units a r n l m h g None state here held floor found units k x y above_l above_m at_x at_y = absurd (none_kept (k - m.floor) y g.units units at_y)
 same_units a r n l m h g (Some rec) state here held floor found units k x y above_l above_m at_x at_y =
     let is = whole_of a r l rec state here.at found in
@@ -172,4 +171,4 @@ same_bytes a b renews state r l m h g at there held also =
     let cut = renews.cut in
     let spot = spot_of_cut a cut r l state (is_line_cut a cut state renews.first) at in
     let lanes = renewed_lane_at a b renews state r l m at there in
-    same_units a r (cut_unit cut.place r) l m h g (recording_of a r) state spot.1 held lanes.floor refl (held_of a b renews state r l g at also)
+    same_units a r (cut_unit cut.place r) l m h g (recording_of a r) state spot.1 held lanes.floor refl (ap (λ (x : HeldBytes). x.units) (held_of a b renews state r l g at also))

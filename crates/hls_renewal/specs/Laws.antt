@@ -1,7 +1,14 @@
 -- The laws of renewals.
-use Rattle.std.specs.Prelude.{◌≡◌, ℕ, ◌+◌, ◌<◌, ◌≤◌, Some, List, length, map, drop, slice_get}
+use Rattle.std.specs.Prelude.{◌≡◌, ℕ, ◌+◌, ◌<◌, ◌≤◌, Some, List, length, map, drop, slice_get, Err}
+use Rattle.hls_record.specs.RecordingData.{RecordingData}
+use Rattle.hls_check_tables.specs.declared.goal.Goal.{Goal}
+use Rattle.hls_check_tables.specs.Plans.{IsPlan}
+use Rattle.hls_check_tables.specs.Tables.{Table}
+use Rattle.hls_places_laws.specs.declared.fault.ProgrammeFault.TheVariants.{BeforeRecording}
 use Rattle.hls_places_laws.specs.FromPlace.{place_since}
 use Rattle.hls_places_laws.specs.Line.Live.{segments_of}
+use Rattle.hls_places_laws.specs.Order.{time_of}
+use Rattle.hls_places_laws.specs.Programmes.{IsProgrammeTable}
 use Rattle.hls_m3u8.specs.Playlist.{Playlist}
 use Rattle.hls_core_laws.specs.Base.{IsBase}
 use Rattle.hls_core_laws.specs.Channel.{Lane}
@@ -9,7 +16,8 @@ use Rattle.hls_core_laws.specs.State.{State, HeldBytes, channel}
 use Rattle.hls_core_laws.specs.IsState.{IsState}
 use Rattle.hls_core_laws.specs.Follows.{Follows}
 use Rattle.hls_core_laws.specs.Line.{line}
-use Rattle.hls_core_laws.specs.Places.{places}
+use Rattle.hls_core_laws.specs.Places.{kept_places, places}
+use Rattle.hls_core.specs.Getters.{recording_of}
 use Rattle.hls_playlists_laws.specs.BasedLists.{based_list_of}
 use Rattle.hls_playlists_laws.specs.CutBases.{base_of_cut}
 use Rattle.hls_playlists_laws.specs.Handovers.{IsHandedOver, unit_at}
@@ -18,6 +26,7 @@ use Rattle.hls_playlists_laws.specs.PathLaws.{SameUnitsFrom}
 use Rattle.hls_playlists_laws.specs.PathLists.{path_list_of}
 use Rattle.hls_renewal.specs.declared.line_cut.LineCut.{LineCut}
 use Rattle.hls_renewal.specs.Cuts.{first_cut}
+use Rattle.hls_renewal.specs.Programmes.{HasSameList, HasSamePlans, HasSameProgramme, IsProgrammeOf, table_since}
 use Rattle.hls_renewal.specs.Renewals.{AreNew, Renews, renewal_events, renewal_start}
 
 -- a renewed channel continues the old one at the cut, in each rendition, with the base of the cut. So it takes over (`base_of_cut_takes_over`
@@ -31,6 +40,29 @@ RenewedChannelsAreHandedOver = (a b : State) (renews : Renews a b) → IsState a
 abbrev pub RenewedPlacesAreThoseFromTheCut : Type 0
 RenewedPlacesAreThoseFromTheCut = (a b : State) (renews : Renews a b) → IsState a →
     (k : ℕ) × (slice_get (places a) k ≡ Some (renews.cut).place) × (places b ≡ map (place_since ((renews.cut).place).spots) (drop k (places a)))
+
+-- a programme that begins at the cut or later has the table that the old channel has for it, counted from the cut, or the same refusal
+abbrev pub RenewedProgrammesAgree : Type 0
+RenewedProgrammesAgree = (a b : State) (renews : Renews a b) → IsState a → (goal : Goal) (start stop : ℕ) →
+    time_of (renews.cut).place ≤ start → start < stop → HasSameProgramme ((renews.cut).place).spots a b goal start stop
+
+-- the table has the same plans, at the same costs
+abbrev pub RenewedPlansAgree : Type 0
+RenewedPlansAgree = (a b : State) (renews : Renews a b) → IsState a → (goal : Goal) (start stop : ℕ) (t : Table) →
+    time_of (renews.cut).place ≤ start → start < stop → IsProgrammeTable goal (kept_places a) start stop t →
+    HasSamePlans t (table_since ((renews.cut).place).spots t)
+
+-- in each rendition a plan's playlist is equal, and so are the bytes that it names
+abbrev pub RenewedCatchUpListsAreEqual : Type 0
+RenewedCatchUpListsAreEqual = (a b : State) (renews : Renews a b) → IsState a → (goal : Goal) (start stop : ℕ) (t : Table) →
+    time_of (renews.cut).place ≤ start → start < stop → IsProgrammeTable goal (kept_places a) start stop t →
+    (plan : List ℕ) → IsPlan t plan → (r : ℕ) (x y : RecordingData) → recording_of a r ≡ Some x → recording_of b r ≡ Some y →
+    HasSameList a b t (table_since ((renews.cut).place).spots t) plan r x y
+
+-- a programme that begins before the cut is before the recording
+abbrev pub EarlierProgrammesAreRefused : Type 0
+EarlierProgrammesAreRefused = (a b : State) (renews : Renews a b) → IsState a → (goal : Goal) (start stop : ℕ) →
+    start < time_of (renews.cut).place → IsProgrammeOf b goal start stop (Err BeforeRecording)
 
 -- if the old channel lists a segment, the renewed one has the same playlists, by ranges and by paths
 abbrev pub RenewedListsAreEqual : Type 0

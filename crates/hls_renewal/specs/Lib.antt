@@ -1,4 +1,5 @@
 -- The definitions of this crate.
 pub mod Cuts
 pub mod Renewals
+pub mod Programmes
 pub mod Laws

@@ -1,6 +1,6 @@
 //! Laws of renewals. Each function has no body: its contract is the law.
 
-ghost use Rattle.hls_renewal.specs.Laws.{RenewalsAreNew, RenewedChannelsAreHandedOver, RenewedListsAreEqual, RenewedListsContinue, RenewedPlacesAreThoseFromTheCut, RenewedUnitsHaveSameBytes, RunsAndVersionsNeverGoBack};
+ghost use Rattle.hls_renewal.specs.Laws.{EarlierProgrammesAreRefused, RenewalsAreNew, RenewedCatchUpListsAreEqual, RenewedChannelsAreHandedOver, RenewedListsAreEqual, RenewedListsContinue, RenewedPlacesAreThoseFromTheCut, RenewedPlansAgree, RenewedProgrammesAgree, RenewedUnitsHaveSameBytes, RunsAndVersionsNeverGoBack};
 
 use hls_places_laws::{line_from_cut_agrees, places_from_a_place_agree, places_never_go_back};
 use hls_playlists_laws::path_laws::{
@@ -16,6 +16,43 @@ pub fn renewed_channels_are_handed_over()
 /// The common places of a renewed channel are the old one's from the cut on.
 pub fn renewed_places_are_those_from_the_cut()
     ensures { RenewedPlacesAreThoseFromTheCut }
+{
+    places_from_a_place_agree();
+    places_never_go_back();
+    line_from_cut_agrees();
+}
+
+/// A programme of a renewed channel that begins at the cut or later has the same table as in the old channel, with its units and gaps
+/// counted from the cut, or the same refusal.
+pub fn renewed_programmes_agree()
+    ensures { RenewedProgrammesAgree }
+{
+    places_from_a_place_agree();
+    places_never_go_back();
+    line_from_cut_agrees();
+}
+
+/// The table of such a programme has the same plans as in the old channel, at the same costs, so the same plans are least.
+pub fn renewed_plans_agree()
+    ensures { RenewedPlansAgree }
+{
+    places_from_a_place_agree();
+    places_never_go_back();
+    line_from_cut_agrees();
+}
+
+/// In each rendition the playlist of such a plan is equal, and so are the bytes of its resource: the init section and the units.
+pub fn renewed_catch_up_lists_are_equal()
+    ensures { RenewedCatchUpListsAreEqual }
+{
+    places_from_a_place_agree();
+    places_never_go_back();
+    line_from_cut_agrees();
+}
+
+/// A programme of a renewed channel that begins before the cut is refused as before the recording.
+pub fn earlier_programmes_are_refused()
+    ensures { EarlierProgrammesAreRefused }
 {
     places_from_a_place_agree();
     places_never_go_back();
