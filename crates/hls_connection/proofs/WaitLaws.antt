@@ -112,22 +112,22 @@ pub record AsksForPlan (route : Route) (method : Method) (now : Option ℕ) (wai
   pub waits : may_wait method ≡ true
   pub deadline : IsDeadline now None (Some wait.deadline_ms)
 
-soon_planned : (now : ℕ) → plan_deadline_after now ≤ now + 30000
-soon_planned now = omega (arith, min-le_left (now + 10000) (2 ^ 64 - 1))
+soon_planned : (now wait_ms : ℕ) → plan_deadline_after now wait_ms ≤ now + 30000
+soon_planned now wait_ms = omega (arith, min-le_left (now + min wait_ms 30000) (2 ^ 64 - 1), min-le_right wait_ms 30000)
 
-pub plan_asked : (route : Route) (method : Method) (now : Option ℕ) (wait : PlanWait) → plan_wait_by route method now ≡ Some wait → AsksForPlan route method now wait
-plan_asked (routes.Programme start stop file) method (Some now) wait is = by (may_wait method) refl is
+pub plan_asked : (route : Route) (method : Method) (now : Option ℕ) (wait_ms : ℕ) (wait : PlanWait) → plan_wait_by route method now wait_ms ≡ Some wait → AsksForPlan route method now wait
+plan_asked (routes.Programme start stop file) method (Some now) wait_ms wait is = by (may_wait method) refl is
   where
     made : PlanWait
-    made = record { start = start; stop = stop; file = file; deadline_ms = plan_deadline_after now }
+    made = record { start = start; stop = stop; file = file; deadline_ms = plan_deadline_after now wait_ms }
 
     by : (may : Bool) → may_wait method ≡ may → cond may (Some made) None ≡ Some wait → AsksForPlan (routes.Programme start stop file) method (Some now) wait
     by true may is =
         let same : made ≡ wait = ap (wait_in made) is in
-        subst (λ (w : PlanWait). AsksForPlan (routes.Programme start stop file) method (Some now) w) same (record { route_is = refl; waits = may; deadline = soon_planned now })
+        subst (λ (w : PlanWait). AsksForPlan (routes.Programme start stop file) method (Some now) w) same (record { route_is = refl; waits = may; deadline = soon_planned now wait_ms })
     by false may is = absurd (cc is)
-plan_asked (routes.Programme start stop file) method None wait is = absurd (cc is)
-plan_asked route method now wait is = absurd (cc is)
+plan_asked (routes.Programme start stop file) method None wait_ms wait is = absurd (cc is)
+plan_asked route method now wait_ms wait is = absurd (cc is)
 
 -- ---- a step of a connection
 

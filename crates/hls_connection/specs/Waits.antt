@@ -40,14 +40,14 @@ abbrev pub awaited_by : Route → Option ℕ → Option (ℕ × ℕ)
 awaited_by (routes.Job id) (Some deadline) = Some (id, deadline)
 awaited_by route deadline = None
 
--- the programme for whose plan the response may wait, for at most ten seconds
-abbrev pub plan_deadline_after : ℕ → ℕ
-plan_deadline_after now = min (now + 10000) (2 ^ 64 - 1)
+-- the programme for whose plan the response may wait, for at most 30 seconds
+abbrev pub plan_deadline_after : ℕ → ℕ → ℕ
+plan_deadline_after now wait_ms = min (now + min wait_ms 30000) (2 ^ 64 - 1)
 
-abbrev pub plan_wait_by : Route → Method → Option ℕ → Option PlanWait
-plan_wait_by (routes.Programme start stop file) method (Some now) =
-    cond (may_wait method) (Some (record { start = start; stop = stop; file = file; deadline_ms = plan_deadline_after now })) None
-plan_wait_by route method now = None
+abbrev pub plan_wait_by : Route → Method → Option ℕ → ℕ → Option PlanWait
+plan_wait_by (routes.Programme start stop file) method (Some now) wait_ms =
+    cond (may_wait method) (Some (record { start = start; stop = stop; file = file; deadline_ms = plan_deadline_after now wait_ms })) None
+plan_wait_by route method now wait_ms = None
 
 -- the deadline is still to come
 abbrev pub has_time : Option ℕ → ℕ → Bool

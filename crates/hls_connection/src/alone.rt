@@ -139,6 +139,10 @@ impl Keeper for Alone {
         readings
     }
 
+    fn plan_wait_ms(&self) -> u64 {
+        0 // a plan is made when it is asked for
+    }
+
     fn measured(&self) -> Measured {
         Measured::nothing()
     }

@@ -1,6 +1,6 @@
 //! A thread's handle of a channel that many threads share, and the sessions that it serves.
 
-ghost use Rattle.std.specs.Prelude.{◌≡◌, ◌≤◌, ℕ, [], length, IsFalse, Some};
+ghost use Rattle.std.specs.Prelude.{◌≡◌, ◌≤◌, [], length, IsFalse, IsTrue};
 ghost use Rattle.hls_api.specs.{Acts.knowledge_of, OtherActors.Others, PlaylistCache.HasSameListsBefore};
 ghost use Rattle.hls_connection.specs.{FailureCounts.SessionCounts, RunsSession.RunsSession};
 
@@ -27,6 +27,15 @@ use std::cell::Cell;
 use std::io::{Read, Write};
 use std::sync::{Arc, Wait};
 
+/// A version that a handle's pass saw.
+#[derive(Clone, Copy, Drop)]
+pub struct SeenVersion {
+    /// The last known one; 0 before the first.
+    pub version: u64,
+    /// Whether it covers what was made since it was asked for before.
+    pub is_covering: bool,
+}
+
 /// A thread's handle of a channel: the runtime by which it waits, the allocator, the channel's turn and jobs, and a pass of the turn.
 /// The next look or event sees what other passes submitted meanwhile. Between two calls it holds nothing of the turn or the jobs,
 /// except the texts of short live lists of the snapshot that it looked at for one last.
@@ -45,9 +54,9 @@ pub struct ChannelHandle<'a, T: Wait> {
     /// The time at which its user last read the clock, in milliseconds.
     pub now_ms: u64,
     lists: PlaylistCache,
-    /// The version of the state that the pass saw last, if it is known.
-    seen: u64,
-    /// Whether it isn't: the last event was a repeat or refused, or the last look failed.
+    /// The last known version of a state that the pass saw; 0 before the first.
+    pub seen: u64,
+    /// Whether the pass may have seen a later state since: the last event was a repeat or refused, or the last look failed.
     is_unknown: bool,
     /// Whether a job was read since the last call of `take_seen`. A job may be of a later state than the pass saw.
     has_read_job: Cell<bool>,
@@ -82,15 +91,16 @@ impl<'a, T: Wait> ChannelHandle<'a, T> {
         }
     }
 
-    /// Returns a version that covers what was made since the last call: that of the state which the pass saw last. There is none if
-    /// that isn't known, or if a job was read meanwhile, which may be of a later state.
-    pub fn take_seen(&self) -> Option<u64>
-        ensures covers { (version : ℕ) → result ≡ Some version → length self.now.pass.known.seen.log ≤ version }
+    /// Returns the last known version that the pass saw, and whether it covers what was made since the last call. It doesn't if a later
+    /// state may have been seen, or if a job was read meanwhile, which may be of a later state.
+    pub fn take_seen(&self) -> SeenVersion
+        ensures version { result.version ≡ self.now.seen }
+        ensures covers { IsTrue result.is_covering → length self.now.pass.known.seen.log ≤ result.version }
     {
-        if self.has_read_job.replace(false) || self.is_unknown {
-            None
-        } else {
-            Some(self.seen)
+        let has_read_job = self.has_read_job.replace(false);
+        SeenVersion {
+            version: self.seen,
+            is_covering: !has_read_job && !self.is_unknown,
         }
     }
 }
@@ -184,6 +194,10 @@ impl<'a, T: Wait> Keeper for ChannelHandle<'a, T> {
         let readings = self.channel.read_encoders(self.now_ms, ahead_us);
         self.acts.note_readings(&readings);
         readings
+    }
+
+    fn plan_wait_ms(&self) -> u64 {
+        self.channel.plan_wait_ms
     }
 
     fn measured(&self) -> Measured {

@@ -103,6 +103,9 @@ pub trait Keeper {
     fn read_encoders(&mut self, ahead_us: u64) -> EncoderReadings
         ensures { known self.new ≡ knowledge_after (known self.old) (ReadEncoders result) };
 
+    /// How long a response waits for a programme's plan, in milliseconds; 30 seconds at most. No contract covers it.
+    fn plan_wait_ms(&self) -> u64;
+
     /// Returns what the server around the channel measured. No contract covers the numbers.
     fn measured(&self) -> Measured;
 }

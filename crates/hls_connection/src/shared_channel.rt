@@ -21,6 +21,8 @@ pub struct SharedChannel<'a> {
     pub signs: &'a EncoderSigns,
     /// How long an encoder may be silent until it is away, in milliseconds.
     pub wait_ms: u64,
+    /// How long a response waits for a programme's plan, in milliseconds; 30 seconds at most.
+    pub plan_wait_ms: u64,
 }
 
 /// Microseconds per millisecond.

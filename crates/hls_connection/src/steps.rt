@@ -212,7 +212,8 @@ fn step_handle<K: Keeper, O: Observer>(
         };
         return Transition::without_output(ConnectionState::Wait(waiting), true);
     }
-    if let Some(wait) = awaited_programme(&context, route, now) {
+    let plan_wait_ms = keeper.plan_wait_ms();
+    if let Some(wait) = awaited_programme(&context, route, now, plan_wait_ms) {
         return step_programme(context, wait, acts, keeper, observer);
     }
     match handle_request(keeper, &mut acts, &context, route) {

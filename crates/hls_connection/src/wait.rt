@@ -23,12 +23,9 @@ use hls_jobs::FoundPlan;
 use std::alloc::{AllocError, Global};
 use std::mem;
 
-/// The longest that a response waits, in seconds, whatever the client prefers. No byte is sent meanwhile, and clients and proxies give
-/// up a response that stays silent, nginx by default after 60 s.
+/// The longest that a response waits, in seconds, whatever the client prefers and the server allows. No byte is sent meanwhile, and
+/// clients and proxies give up a response that stays silent, nginx by default after 60 s.
 const LONGEST_WAIT_S: u64 = 30;
-
-/// How long a response waits for a programme's plan, in milliseconds.
-const PLAN_WAIT_MS: u64 = 10_000;
 
 /// A request for a programme whose response may wait, and until when.
 #[derive(Clone, Copy)]
@@ -83,13 +80,15 @@ pub(crate) fn awaited_job(
     }
 }
 
-/// The programme whose plan a request's response may wait for, and until when. None waits where no time is given.
+/// The programme whose plan a request's response may wait for, and until when: for `wait_ms` milliseconds, within the limit. None
+/// waits where no time is given.
 pub(crate) fn awaited_programme(
     context: &RequestContext,
     route: Route,
     now: Option<u64>,
+    wait_ms: u64,
 ) -> Option<PlanWait>
-    ensures { result ≡ plan_wait_by route context.now.head.method now }
+    ensures { result ≡ plan_wait_by route context.now.head.method now wait_ms }
 {
     let (Route::Programme(start, stop, file), Some(now)) = (route, now) else {
         return None;
@@ -101,7 +100,7 @@ pub(crate) fn awaited_programme(
         start,
         stop,
         file,
-        deadline_ms: now.saturating_add(PLAN_WAIT_MS),
+        deadline_ms: now.saturating_add(wait_ms.min(LONGEST_WAIT_S * 1000)),
     })
 }
 

@@ -97,6 +97,7 @@ fn sent_to<T: Wait>(rt: &T, alloc: Global, jobs: &Jobs) -> Option<(SessionOutcom
         measurements: &measurements,
         signs: &signs,
         wait_ms: 5000,
+        plan_wait_ms: 10_000,
     };
     let Some(second) = passes.pop() else {
         return None;

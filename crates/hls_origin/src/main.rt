@@ -100,7 +100,8 @@ serve: a live channel over HTTP; encoders PUT to /ingest/0, /ingest/1, .. and pl
   --workers N    threads that serve connections, 1 to 63; 8
   --connections N  connections that are held at once, 16 to 1000000; 4096
   --planners N   threads for catch-up recordings, 1 to 16; 2
-  --patience N   seconds that a connection may be silent or slow, 1 to 3600; 30
+  --patience N   seconds that a connection may be silent or slow, 1 to 3600; 30. A response waits as long for
+                 the plan of a programme, at most 30
   --log requests a line for each request on standard error
   --run TEXT     the run that the paths of media below /hls/ name, 1 to 16 letters and digits; generated if
                  not given. No other channel may ever have it

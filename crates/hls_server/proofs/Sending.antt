@@ -67,7 +67,7 @@ jobs_sync = search (sendable, crosses, inner_send) depth 30
 
 channel_sync : (a : NamedLft) → IsSync (channel.the_row a)
 channel_sync a = declared_sync (channel.the_type a)
-    (shr_sync _ _ _ turn.the_sync, (shr_sync _ _ _ jobs_sync, (shr_sync _ _ _ measurements.the_sync, (shr_sync _ _ _ signs.the_sync, (search (sendable, crosses) depth 30, tt)))))
+    (shr_sync _ _ _ turn.the_sync, (shr_sync _ _ _ jobs_sync, (shr_sync _ _ _ measurements.the_sync, (shr_sync _ _ _ signs.the_sync, (search (sendable, crosses) depth 30, (search (sendable, crosses) depth 30, tt))))))
 
 pub context_sync : (a : NamedLft) → IsSync (context.the_row a)
 context_sync a = declared_sync (context.the_type a) (

@@ -1,6 +1,6 @@
 //! The handler of a worker's connections.
 
-ghost use Rattle.std.specs.Prelude.{◌≡◌, ◌⊎◌};
+ghost use Rattle.std.specs.Prelude.{◌≡◌, ◌⊎◌, IsFalse};
 ghost use Rattle.hls_http.specs.ResponseText.{out_of_memory_text};
 ghost use Rattle.hls_api.specs.Acts.{knowledge_of};
 ghost use Rattle.hls_connection.specs.Histories.{new_history};
@@ -121,6 +121,7 @@ impl<'a, R: Wait> ServerHandler<'a, R> {
     fn set_gate(&self, gate: &mut SendGate, is_exempt: bool, is_receiving: bool)
         ensures covers { Covers self.now.handle.pass.known.seen gate.new.needed }
         ensures exempt { gate.new.needed.is_exempt ≡ is_exempt }
+        ensures version { IsFalse is_exempt → gate.new.needed.version ≡ self.now.handle.seen }
     {
         *gate = SendGate {
             needed: NeededPoint::of_handle(&self.handle, self.durability, is_exempt),

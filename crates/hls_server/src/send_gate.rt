@@ -1,6 +1,6 @@
 //! What holds the bytes of a connection back until their state is durable.
 
-ghost use Rattle.std.specs.Prelude.{◌≡◌};
+ghost use Rattle.std.specs.Prelude.{◌≡◌, IsFalse};
 ghost use Rattle.hls_server.specs.SendGates.{Covers, is_behind, is_closed};
 
 use crate::durability::{Durability, DurablePoint};
@@ -10,9 +10,9 @@ use std::sync::Wait;
 /// How far a journal must be durable before bytes are sent.
 #[derive(Clone, Copy, Drop)]
 pub struct NeededPoint {
-    /// The version that the worker's pass had seen when they were made.
+    /// The last known version that the worker's pass had seen when they were made.
     pub version: u64,
-    /// The round that must have ended if that version isn't known; else 0.
+    /// The round that must have ended if they may show a later state than that version; else 0.
     pub round: u64,
     /// Whether nothing must be durable, since the response shows no media: a report for operators, or a refusal.
     pub is_exempt: bool,
@@ -28,14 +28,18 @@ impl NeededPoint {
     ) -> NeededPoint
         ensures covers { Covers handle.now.pass.known.seen result }
         ensures exempt { result.is_exempt ≡ is_exempt }
+        ensures version { IsFalse is_exempt → result.version ≡ handle.now.seen }
     {
         let (version, round) = if is_exempt {
             (0, 0)
         } else {
-            match handle.take_seen() {
-                Some(version) => (version, 0),
-                None => (0, durability.next_round()),
-            }
+            let seen = handle.take_seen();
+            let round = if seen.is_covering {
+                0
+            } else {
+                durability.next_round()
+            };
+            (seen.version, round)
         };
         NeededPoint {
             version,

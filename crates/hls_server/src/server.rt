@@ -197,16 +197,15 @@ where
         journal,
         refuses_encoders,
     } = start;
-    let workers = settings.server.workers;
     let durability = find_durability(&snapshot, journal.is_some());
-    let count = pass_count(workers.workers, journal.is_some());
+    let count = pass_count(settings.server.workers.workers, journal.is_some());
     let (turn, passes) = Turn::new(rt, alloc, snapshot, count)?;
     if refuses_encoders {
         turn.refuse_encoders();
     }
     let jobs = Jobs::starting_at(alloc, first_job)?;
     let measurements = Measurements::new(alloc)?;
-    let limits = find_limits(workers);
+    let limits = find_limits(settings.server.workers);
     let worker_loads = make_loads(alloc, limits, connections)?;
     let signs = EncoderSigns::new();
     let channel = SharedChannel {
@@ -215,6 +214,7 @@ where
         measurements: &measurements,
         signs: &signs,
         wait_ms: u64::from(settings.server.wait_s).saturating_mul(1000),
+        plan_wait_ms: settings.server.workers.idle_timeout_s.saturating_mul(1000),
     };
     let (throttle, closed) = (LogThrottle::new(), AtomicBool::new(false));
     let context = ServerContext {

@@ -62,14 +62,14 @@ returns-in-Some-clause-proceeds g c =
 
 pub step_programme-requires : goal.step_programme-requires
 step_programme-requires g c =
-    (plan_asked c.args.route c.args.context.head.method c.args.now c.in-Some-awaited_programme.wait (sym c.awaited_programme.ensures ∙ c.in-Some-awaited_programme.is)).waits
+    (plan_asked c.args.route c.args.context.head.method c.args.now _ c.in-Some-awaited_programme.wait (sym c.awaited_programme.ensures ∙ c.in-Some-awaited_programme.is)).waits
 
 pub returns-in-Some-awaited_programme-clause-handles : goal.returns-in-Some-awaited_programme-clause-handles
 returns-in-Some-awaited_programme-clause-handles g c = λ nothing channel stream first unread last x.
-    let asked = plan_asked c.args.route c.args.context.head.method c.args.now c.in-Some-awaited_programme.wait (sym c.awaited_programme.ensures ∙ c.in-Some-awaited_programme.is) in
+    let asked = plan_asked c.args.route c.args.context.head.method c.args.now _ c.in-Some-awaited_programme.wait (sym c.awaited_programme.ensures ∙ c.in-Some-awaited_programme.is) in
     c.step_programme.ensures.handles nothing channel stream first unread last (record { at = x.at; route_is = x.route_is ∙ ap Some asked.route_is; discarded = x.discarded })
 
 pub returns-in-Some-awaited_programme-clause-proceeds : goal.returns-in-Some-awaited_programme-clause-proceeds
 returns-in-Some-awaited_programme-clause-proceeds g c =
-    let asked = plan_asked c.args.route c.args.context.head.method c.args.now c.in-Some-awaited_programme.wait (sym c.awaited_programme.ensures ∙ c.in-Some-awaited_programme.is) in
+    let asked = plan_asked c.args.route c.args.context.head.method c.args.now _ c.in-Some-awaited_programme.wait (sym c.awaited_programme.ensures ∙ c.in-Some-awaited_programme.is) in
     c.step_programme.ensures.proceeds c.args.now asked.deadline
