@@ -48,7 +48,8 @@ Gone: a byte of what was asked for was trimmed. Read the playlist anew, or keep 
 HeadTooLarge: the head of a request has more than 16384 bytes or 64 fields. Send fewer or shorter ones; cookies are the most likely.
 InitChanged: another init section came than the rendition has: codec, size or timescale changed, or another encoder sends. \
 With serve --mend, one that differs only in bit rates, times, names and metadata is a repeat. Give the encoder its old settings; for \
-new ones restart the channel with its encoders: hls_origin@NAME's lists continue after a discontinuity, with an empty recording.
+new ones begin an empty channel by hls_channel anew NAME or serve --anew, and restart its encoders: its lists continue after a \
+discontinuity.
 LedgerFull: the log has 4194304 entries, and takes no more. Start another process and point the encoders to it; fewer, longer \
 fragments fill it later.
 MdatAlone: an mdat comes without a moof before it: the file isn't fragmented, or holds samples before its first moof. Write it \
