@@ -28,4 +28,4 @@ _hls_tool() {
             compgen -f -- "$word"
         )
     fi
-} && complete -o filenames -F _hls_tool hls_archive hls_channel hls_ingest hls_metrics hls_programme
+} && complete -o filenames -F _hls_tool hls_archive hls_channel hls_ingest hls_programme

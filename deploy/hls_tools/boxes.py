@@ -30,11 +30,6 @@ def init_length(data: bytes) -> int:
     return next((box.end for box in boxes(data) if box.kind == b"moov"), 0)
 
 
-def units_length(data: bytes) -> int:
-    """Returns the length of the whole units at the beginning: each ends with its mdat."""
-    return max((box.end for box in boxes(data) if box.kind == b"mdat"), default=0)
-
-
 def count_units(data: bytes) -> int | None:
     """Returns the number of units, or None if the bytes aren't whole units."""
     found = list(boxes(data))

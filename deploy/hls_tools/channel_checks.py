@@ -13,7 +13,7 @@ from typing import NamedTuple
 
 from . import edge
 from .certificates import PROGRAM
-from .channels import FOLDER, NAME, Ladder, Wrong, option, read_values
+from .channels import FOLDER, NAME, Ladder, Wrong, name_of, option, read_values
 
 # What a channel's file may have: the origin's keys, those of its input, and those of the machine around it.
 KEYS = ("OPTIONS", "ADDRESS", "RENDITIONS", "SIZES", "RATE", "GROUP", "INPUT", "INPUT_OPTIONS", "ORIGINS", "VIDEO_OPTIONS", "EDGE", "STANDBY", "SENDERS")
@@ -25,11 +25,6 @@ class Need(NamedTuple):
 
     address_space: str
     memory: str
-
-
-def name_of(path: str) -> str:
-    """Returns a channel's name, which its file has."""
-    return os.path.splitext(os.path.basename(path))[0]
 
 
 def places_of(values: dict[str, str]) -> list[str]:
@@ -145,8 +140,7 @@ def collisions(values: dict[str, str], other: dict[str, str]) -> list[str]:
 
 
 def faults_of(path: str, folder: str = FOLDER, channels: str | None = None, is_served_here: bool = False) -> list[str]:
-    """Returns what is wrong in a channel's file, a line for each fault. `channels` is the edge's file of channels. Of a channel that isn't
-    served here, hls_metrics has a copy of the file."""
+    """Returns what is wrong in a channel's file, a line for each fault. `channels` is the edge's file of channels."""
     try:
         values = read_values(path)
     except Wrong as fault:

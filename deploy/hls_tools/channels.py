@@ -50,6 +50,11 @@ def read_values(path: str) -> dict[str, str]:
     return found
 
 
+def name_of(path: str) -> str:
+    """Returns a channel's name, which its file has."""
+    return os.path.splitext(os.path.basename(path))[0]
+
+
 def reachable(address: str) -> str:
     """Returns the address at which this machine reaches a listener: one that listens everywhere is asked here."""
     return address.strip().replace("0.0.0.0:", "127.0.0.1:")

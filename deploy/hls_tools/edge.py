@@ -4,7 +4,6 @@ import ipaddress
 import os
 import re
 import subprocess
-import urllib.request
 from collections.abc import Iterable, Mapping, Sequence
 from typing import IO, TypedDict
 
@@ -13,13 +12,11 @@ from .channels import NAME, Wrong
 FOLDER = "/etc/nginx/hls_origin"
 LOCK = "/run/hls_edge.lock"
 HOST = r"[a-z0-9]([a-z0-9-]*[a-z0-9])?(\.[a-z0-9]([a-z0-9-]*[a-z0-9])?)*"
-RUN = "[A-Za-z0-9]{1,16}"
 # First words of the edge's own paths: a channel at one of these would hide them.
 TAKEN = {"/hls", "/origin"}
 DOORS = ("operators", "encoders")
 # A user with limits of his own. (A longer name doesn't fit into a bucket of nginx's hash, so it shares the limits of strangers.)
 USER = r"[A-Za-z0-9_.@-]{1,20}"
-DIRECT = urllib.request.build_opener(urllib.request.ProxyHandler({}))
 
 
 class Channel(TypedDict):
@@ -88,16 +85,6 @@ def write_whole(path: str, text: str, mode: int) -> None:
         file.flush()
         os.fsync(file.fileno())
     os.replace(path + ".new", path)
-
-
-def run_of(origin: str, seconds: float = 2) -> str | None:
-    """The run of an origin's process, or None if it doesn't answer."""
-    try:
-        with DIRECT.open(f"http://{origin}/hls/run", timeout=seconds) as reply:
-            found = re.fullmatch(RUN, reply.read(100).decode("ascii", "replace").strip())
-            return found[0] if found else None
-    except (OSError, ValueError):
-        return None
 
 
 def users_of(folder: str, name: str) -> list[str]:

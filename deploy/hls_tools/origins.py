@@ -12,19 +12,17 @@ import ssl
 import threading
 import time
 import urllib.parse
-from collections.abc import Mapping
 from typing import NamedTuple
 
 from .channels import address_of_file
 from .failures import Failure
 
-TIMEOUT = 20.0                                  # seconds that an origin may be silent
+TIMEOUT = 45.0                                  # seconds that an origin may be silent: it may plan a programme for 30
 PATIENCE = 5.0                                  # seconds after which an origin that can't be reached is given up
 BUSY = 60.0                                     # seconds for which a request that is put off (429, or 503 with Retry-After) is sent again
 PAUSE = 0.2                                     # seconds between two tries
 SLOWEST = 16 << 10                              # bytes a second of the slowest link
-UNIT = 1 << 26                                  # bytes of the largest unit
-LONG = 1 << 18                                  # bytes of a long text: it has no time for more on the slowest link, and media for a unit
+LONG = 1 << 18                                  # bytes of a long text: it has no time for more on the slowest link
 SHORT = 4096                                    # bytes of a line
 TEXT = 1 << 24                                  # bytes of a playlist or a certificate
 HOST = r"[A-Za-z0-9]+(?:(?:\.|-+)[A-Za-z0-9]+)*"
@@ -68,7 +66,7 @@ def trust(authority: str | None) -> ssl.SSLContext:
 class Origin:
     """An origin, by its own address or by a channel's URL at an edge. A user and a password are the URL's, or those of ~/.netrc."""
 
-    def __init__(self, word: str, *, authority: str | None = None, agent: str = "hls_tools", timeout: float = TIMEOUT, patience: float = PATIENCE) -> None:
+    def __init__(self, word: str, *, authority: str | None = None, agent: str = "hls_tools", timeout: float = TIMEOUT) -> None:
         url = urllib.parse.urlsplit(url_of(word))
         try:
             usable = url.scheme in ("http", "https") and url.hostname is not None and url.port != 0 and not url.query and not url.fragment
@@ -80,8 +78,7 @@ class Origin:
         place = url.netloc.rpartition("@")[2]
         self.url = f"{url.scheme}://{place}{self.prefix}"
         self.name = place if url.scheme == "http" and not self.prefix else self.url
-        self.timeout, self.patience = timeout, patience
-        self.is_over = False
+        self.timeout, self.patience = timeout, PATIENCE
         self.headers = {"User-Agent": agent, **self._authorization(url)}
         self.connection: http.client.HTTPConnection
         if url.scheme == "https":
@@ -100,49 +97,45 @@ class Origin:
         pair = ":".join(urllib.parse.unquote(one) for one in known)
         return {"Authorization": "Basic " + base64.b64encode(pair.encode()).decode()}
 
-    def ask(self, method: str, path: str, limit: int = SHORT, headers: Mapping[str, str] | None = None, body: bytes | None = None) -> Response:
-        """Sends a request, and again while patience lasts if the connection breaks. (A unit that arrives twice is recorded once.)"""
+    def ask(self, path: str, limit: int = SHORT, expected: int = 0) -> Response:
+        """Requests a path, and again while patience lasts if the connection breaks. The response has at most `limit` bytes, and the time
+        that the slowest link takes for those that are expected, or for a long text."""
         begun = time.monotonic()
         while True:
             try:
-                response = self._once(method, path, limit, {**self.headers, **(headers or {})}, body)
+                response = self._once(path, limit, self.timeout + max(expected, LONG) / SLOWEST)
             except ssl.SSLCertVerificationError as fault:
                 raise Failure(f"{self.url}: the edge's certificate isn't trusted ({fault.verify_message}): give --ca FILE with the authority that "
                               "signed it, or with the certificate itself if it is self-signed") from fault
             except BROKEN as fault:
-                if time.monotonic() - begun >= self.patience or self.is_over:
-                    raise Unreachable(f"{self.name} doesn't answer {method} {path}: {printable(str(fault).encode()) if str(fault) else type(fault).__name__}") from None
+                if time.monotonic() - begun >= self.patience:
+                    raise Unreachable(f"{self.name} doesn't answer GET {path}: {printable(str(fault).encode()) if str(fault) else type(fault).__name__}") from None
                 time.sleep(PAUSE)
                 continue
-            wait = self._put_off(method, response)
+            wait = self._put_off(response)
             if wait is None or time.monotonic() - begun > (self.patience if response.status in (502, 504) else BUSY):
                 return response
             time.sleep(wait)
 
     @staticmethod
-    def _put_off(method: str, response: Response) -> float | None:
+    def _put_off(response: Response) -> float | None:
         """Returns the seconds after which the same request may succeed, or None if it is answered."""
-        if method not in ("GET", "HEAD"):
-            return None
         if response.status == 503 and (found := re.fullmatch(r"[0-9]{1,3}", response.headers.get("Retry-After", ""))):
             return min(10.0, float(found[0]))
         # an edge that limits requests, or that has lost its origin for a moment
         return {429: 1.0, 502: PAUSE, 504: PAUSE}.get(response.status)
 
-    def _once(self, method: str, path: str, limit: int, headers: Mapping[str, str], body: bytes | None) -> Response:
-        seconds = self.timeout + (min(limit, UNIT if "Range" in headers else LONG) + len(body or b"")) / SLOWEST
+    def _once(self, path: str, limit: int, seconds: float) -> Response:
         late = threading.Timer(seconds, self._cut)
         late.start()
         try:
-            if self.is_over:
-                raise ConnectionAbortedError("it had its time")
-            self.connection.request(method, self.prefix + path, body, dict(headers))
+            self.connection.request("GET", self.prefix + path, headers=self.headers)
             reply = self.connection.getresponse()
             content = reply.read(limit + 1)
             if len(content) > limit:
                 self.connection.close()
                 raise Failure(f"{self.name}: {path} has more than {limit} bytes: this isn't an origin")
-            if method != "HEAD" and reply.length or not late.is_alive():
+            if reply.length or not late.is_alive():
                 raise http.client.IncompleteRead(content)
             if reply.will_close or not reply.isclosed():
                 self.connection.close()
@@ -155,11 +148,6 @@ class Origin:
         finally:
             late.cancel()
 
-    def cut(self) -> None:
-        """Ends a request from another thread, and each one after it."""
-        self.is_over = True
-        self._cut()
-
     def _cut(self) -> None:
         """Ends a response that takes too long."""
         with contextlib.suppress(OSError, AttributeError):
@@ -167,7 +155,7 @@ class Origin:
 
     def text(self, path: str, limit: int = TEXT) -> str:
         """Returns a text that has to be there."""
-        response = self.ask("GET", path, limit)
+        response = self.ask(path, limit)
         if response.status != 200:
             raise Failure(f"{self.name}: {path} is {response.status}: {printable(response.body)}")
         try:

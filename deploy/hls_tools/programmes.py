@@ -3,19 +3,18 @@ import contextlib
 import os
 import re
 import subprocess
-from dataclasses import replace
 from typing import NamedTuple
 
 from .boxes import count_units, init_length
 from .certificates import PROGRAM, Certificate, check_certificate
 from .failures import Failure
 from .origins import TEXT, Origin, printable
-from .playlists import Map, MediaPlaylist, Segment, count_renditions, read_media_playlist, write_media_playlist
 
-RENDITIONS = 16
-PIECE = 8 << 20                                 # bytes that one request fetches
 INIT_LIMIT = 1 << 20                            # bytes of the largest init section
 SEGMENT_LIMIT = 1 << 30                         # bytes of a segment that is held in memory to be checked
+# A segment and an init section as a programme's list names them: ../../../RUN/R/FILE.
+SEGMENT = re.compile(r"#EXTINF:(\d{1,4})\.(\d{6}),\n\.\./\.\./\.\./([A-Za-z0-9]{1,16})/(\d{1,2})/(\d{1,15})-(\d{1,15})\.m4s\n")
+INIT = re.compile(r'#EXT-X-MAP:URI="\.\./\.\./\.\./([A-Za-z0-9]{1,16})/(\d{1,2})/init\.mp4"\n')
 GONE, NO_CUT = "Gone", "NoCut"
 
 
@@ -69,7 +68,7 @@ def request_certificate(origin: Origin, wish: Wish) -> str:
     for word in (wish.begin, wish.end):
         if not re.fullmatch(r"[0-9TZ:.+-]{1,40}", word):
             raise Refused("BadQuery", f"refused: {word!r} is no time: {explain('BadQuery')}")
-    response = origin.ask("GET", wish.path("certificate.txt"), TEXT)
+    response = origin.ask(wish.path("certificate.txt"), TEXT)
     line = printable(response.body)
     if response.status == 200:
         try:
@@ -99,66 +98,76 @@ def read_certificate(text: str) -> Certificate:
     return certificate
 
 
-class MediaFile:
-    """A rendition's file while it is loaded: its init section and its segments, one after the other."""
+class Segment(NamedTuple):
+    """A segment as a programme's list names it: its length in µs, the run, and its first and last byte in the channel's recording."""
 
-    def __init__(self, origin: Origin, number: int, playlist: MediaPlaylist, folder: str) -> None:
-        self.origin, self.number, self.playlist = origin, number, playlist
-        self.name = f"{number}.mp4"
-        self.path = os.path.join(folder, self.name)
+    duration_us: int
+    run: str
+    first: int
+    last: int
 
-    def address(self, uri: str, file: str) -> re.Match[str]:
-        """Reads a URI of the list: ../../../RUN/R/FILE."""
-        found = re.fullmatch(rf"\.\./\.\./\.\./([A-Za-z0-9]{{1,16}})/{self.number}/{file}", uri)
-        if not found:
-            raise Failure(f"{self.number}.m3u8 isn't a programme's list: it names {uri[:60]!r}")
-        return found
 
-    def fetch(self, run: str, name: str, limit: int) -> bytes:
-        """Loads a file of the channel by ranges, each as long as was asked for, of a file that doesn't change."""
-        content, total, path = b"", None, f"/hls/{run}/{self.number}/{name}"
-        while total is None or len(content) < total:
-            last = len(content) + PIECE - 1
-            response = self.origin.ask("GET", path, PIECE, {"Range": f"bytes={len(content)}-{last}"})
-            found = re.fullmatch(r"bytes (\d{1,15})-(\d{1,15})/(\d{1,15})", response.headers.get("Content-Range", ""))
-            if response.status == 410:
-                raise Refused(GONE, "refused: " + explain(GONE))
-            if response.status != 206 or found is None:
-                raise Failure(f"{path} is {response.status}: {printable(response.body)[:80] if response.status != 200 else 'the range was ignored'}")
-            first, end, size = int(found[1]), int(found[2]), int(found[3])
-            if first != len(content) or len(response.body) != end - first + 1 or end != min(last, size - 1) or total not in (None, size) or size > limit:
-                raise Failure(f"{path} from {len(content)}: {len(response.body)} bytes, {found[0]!r}")
-            content, total = content + response.body, size
-        return content
+def segments_of(playlist: str, number: int) -> list[Segment]:
+    """Reads the list of a rendition. ValueError if it isn't one of a programme, or has anything but segments that follow each other."""
+    named = list(SEGMENT.finditer(playlist))
+    found = [Segment(int(one[1]) * 1_000_000 + int(one[2]), one[3], int(one[5]), int(one[6])) for one in named]
+    if not playlist.startswith("#EXTM3U\n") or "#EXT-X-PLAYLIST-TYPE:VOD\n" not in playlist or not playlist.endswith("#EXT-X-ENDLIST\n"):
+        raise ValueError("it isn't whole")
+    if {one.groups()[2:4] for one in named} != set(inits := INIT.findall(playlist)) or len(inits) != 1 or inits[0][1] != str(number):
+        raise ValueError("it names more than one run or rendition")
+    if names_in(SEGMENT.sub("", INIT.sub("", playlist))):
+        raise ValueError("it names something else")
+    if any(not 0 <= one.last - one.first < SEGMENT_LIMIT for one in found) or any(before.last + 1 != after.first for before, after in zip(found, found[1:])):
+        raise ValueError("its segments don't follow each other")
+    return found
 
-    def load(self, planned: list[tuple[int, int]]) -> tuple[str, MediaPlaylist]:
-        """Writes the file. Returns the run that it is of, and the list over it. `planned` is the certificate's plan."""
-        if not self.playlist.is_whole() or [one.duration_us for one in self.playlist.segments] != [length for _, length in planned]:
-            raise Failure(f"{self.number}.m3u8 isn't whole, or has other segments than the certificate plans")
-        inits = {one.init.uri for one in self.playlist.segments if one.init is not None}
-        if len(inits) != 1:
-            raise Failure(f"{self.number}.m3u8 has {len(inits)} init sections")
-        run = self.address(inits.pop(), r"init\.mp4")[1]
-        segments: list[Segment] = []
-        with open(self.path, "xb") as file:
-            init = self.fetch(run, "init.mp4", INIT_LIMIT)
-            if init_length(init) != len(init):
-                raise Failure(f"the init section of rendition {self.number} isn't one")
-            file.write(init)
-            after = None
-            for one, (count, _) in zip(self.playlist.segments, planned):
-                found = self.address(one.uri, r"(\d{1,15})-(\d{1,15})\.m4s")
-                first, last = int(found[2]), int(found[3])
-                # the first and the last byte of the segment in the channel's recording
-                if found[1] != run or after not in (None, first) or last < first:
-                    raise Failure(f"{self.number}.m3u8 has segments that don't follow each other: {one.uri[9:60]!r}")
-                content = self.fetch(run, f"{first}-{last}.m4s", SEGMENT_LIMIT)
-                if len(content) != last - first + 1 or count_units(content) != count:
-                    raise Failure(f"{one.uri[9:60]} isn't {count} whole units of {last - first + 1} bytes")
-                segments.append(replace(one, uri=self.name, init=Map(self.name, len(init)), length=len(content), offset=file.tell()))
-                file.write(content)
-                after = last + 1
-        return run, replace(self.playlist, segments=segments)
+
+def names_in(playlist: str) -> list[str]:
+    """Returns the URIs that a playlist names, in their order."""
+    return [one or other for one, other in re.findall(r'^([^#\n].*)$|URI="([^"]*)"', playlist, re.M)]
+
+
+def count_renditions(master: str) -> int:
+    """Returns the number of renditions of a master playlist whose playlists are 0.m3u8, 1.m3u8, .. without a hole."""
+    names = set(names_in(master))
+    if not names or names != {f"{number}.m3u8" for number in range(len(names))}:
+        raise ValueError("it doesn't name 0.m3u8, 1.m3u8, ..")
+    return len(names)
+
+
+def fetch(origin: Origin, path: str, length: int | None = None) -> bytes:
+    """Loads a file of the channel: as many bytes as are given, or an init section."""
+    response = origin.ask(path, length or INIT_LIMIT, length or 0)
+    if response.status == 410:
+        raise Refused(GONE, "refused: " + explain(GONE))
+    if response.status != 200 or len(response.body) != (length or len(response.body)):
+        raise Failure(f"{path} is {response.status} with {len(response.body)} bytes: {printable(response.body)[:80] if response.status != 200 else 'another length'}")
+    return response.body
+
+
+def load_rendition(origin: Origin, number: int, playlist: str, planned: list[tuple[int, int]], folder: str) -> str:
+    """Writes a rendition's file, its init section and its segments, and the list over it. `planned` are the certificate's segments.
+    Returns the run that it is of."""
+    segments = segments_of(playlist, number)
+    if [one.duration_us for one in segments] != [length for _, length in planned]:
+        raise ValueError("it has other segments than the certificate plans")
+    name, path = f"{number}.mp4", f"/hls/{segments[0].run}/{number}/"
+    init = fetch(origin, path + "init.mp4")
+    if init_length(init) != len(init):
+        raise Failure(f"the init section of rendition {number} isn't one")
+    offset, ranges = len(init), []
+    with open(os.path.join(folder, name), "xb") as file:
+        file.write(init)
+        for one, (count, _) in zip(segments, planned):
+            content = fetch(origin, f"{path}{one.first}-{one.last}.m4s", one.last - one.first + 1)
+            if count_units(content) != count:
+                raise Failure(f"{path}{one.first}-{one.last}.m4s isn't {count} whole units")
+            file.write(content)
+            ranges.append(f"#EXT-X-BYTERANGE:{len(content)}@{offset}\n{name}\n")
+            offset += len(content)
+    written = INIT.sub(f'#EXT-X-MAP:URI="{name}",BYTERANGE="{len(init)}@0"\n', playlist)
+    store(folder, f"{number}.m3u8", SEGMENT.sub(lambda found: found[0].partition("\n")[0] + "\n" + ranges.pop(0), written))
+    return segments[0].run
 
 
 def store(folder: str, name: str, text: str) -> str:
@@ -173,19 +182,13 @@ def load_programme(origin: Origin, wish: Wish, folder: str) -> Summary:
     certificate = read_certificate(store(folder, "certificate.txt", request_certificate(origin, wish)))
     try:
         count = count_renditions(store(folder, "master.m3u8", origin.text(wish.path("master.m3u8"))))
-        playlists = [read_media_playlist(origin.text(wish.path(f"{number}.m3u8"))) for number in range(min(count, RENDITIONS))]
+        if count != len(certificate.places[0]):
+            raise ValueError(f"it has {count} renditions, the certificate {len(certificate.places[0])}")
+        runs = {load_rendition(origin, number, origin.text(wish.path(f"{number}.m3u8")), certificate.segments(number), folder) for number in range(count)}
     except ValueError as fault:
         raise Failure(f"{origin.name}: a playlist of the programme isn't an origin's: {fault}") from None
-    if count != len(certificate.places[0]):
-        raise Failure(f"the certificate has {len(certificate.places[0])} renditions, the master playlist {count}")
-    size, runs = 0, set()
-    for number, playlist in enumerate(playlists):
-        media = MediaFile(origin, number, playlist, folder)
-        run, written = media.load(certificate.segments(number))
-        store(folder, f"{number}.m3u8", write_media_playlist(written))
-        runs.add(run)
-        size += os.path.getsize(media.path)
     if len(runs) > 1:
         raise Failure("its renditions are of several runs: the origin was restarted meanwhile")
     lengths = [length for _, length in certificate.segments(0)]
+    size = sum(os.path.getsize(os.path.join(folder, f"{number}.mp4")) for number in range(count))
     return Summary(f"{len(lengths)} segments, {sum(lengths) / 1e6:.6f} s, {count} renditions, {size} bytes, the certificate holds", certificate.begins)

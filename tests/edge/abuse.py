@@ -13,12 +13,10 @@ import subprocess
 import sys
 import threading
 import time
-import types
 
 from edge_site import ENCODER, OPERATOR, media_of, write
 from harness import ROOT, check, free_port
 from origins import need
-from programme_tools import tool
 
 SVEN, EMMA = ("sven", "another's"), ("emma", "her own")
 
@@ -76,7 +74,6 @@ class Two:
 def log_is_bounded(site):
     """What a stranger says, and how often, writes little into nginx's logs."""
     edge, here = site.edge, "127.9.70.1"
-    metrics = tool("hls_metrics").Log(os.path.join(edge.folder, "hls_origin.log"))
     for agent in ("counted", "counted \xff", "counted " + "\xc3\xa4" * 150):
         edge.raw("/hls/0.m3u8", f"User-Agent: {agent}\r\n", here=here)
     site.edge.raw("/hls/0.m3u8", f"User-Agent: begin{chr(1) * 3800}\r\n", here=here)
@@ -107,8 +104,8 @@ def log_is_bounded(site):
         check("and it can be told how many they were", 1500 < stand < 4500, stand)
     said = edge.errors()
     check("nginx's own log has no line for each", sum(map(len, said)) - errors < 50000 and not any("limiting" in line for line in said), (sum(map(len, said)) - errors, said[-2:]))
-    seen = [line["agent"] for line in metrics.lines() if line["agent"].startswith("counted")]
-    check("hls_metrics reads lines with bytes that aren't UTF-8", len(seen) == 3, seen)
+    seen = [line for line in lines if '"agent":"counted' in line]
+    check("an agent whose bytes aren't UTF-8 is logged, too", len(seen) == 3, seen)
     check("each line of the log is JSON", all(is_json(line) for line in lines), [line for line in lines if not is_json(line)][:2])
 
 
@@ -132,20 +129,6 @@ def refused_quietly(site):
     time.sleep(0.5)
     grown = {name: sum(map(len, edge.lines(name))) - size for name, size in sizes.items()}
     check("1100 requests that are refused write nothing into nginx's own logs", max(grown.values()) < 1000, (grown, edge.errors()[-1:]))
-
-
-def series(site):
-    """On a site of a hundred channels, each of which sees what `news` has seen here, the first fault of another channel is counted."""
-    metrics, path = tool("hls_metrics"), os.path.join(site.edge.folder, "many.log")
-    write(path, "")
-    edge = metrics.Edge(types.SimpleNamespace(edge_status=None, edge_folder=None, edge_certificate=[], edge_disk=[], edge_log=path))
-    seen = {(line["kind"], line["status"], line["cache"]) for line in map(json.loads, site.edge.lines("hls_origin.log")) if line["channel"] == "news"}
-    lines = [{"channel": f"channel{n}", "kind": kind, "status": status, "cache": cache, "bytes": 1, "seconds": 0.1} for n in range(100) for kind, status, cache in sorted(seen)]
-    write(path, "".join(json.dumps(line) + "\n" for line in [*lines, {"channel": "late", "kind": "segment", "status": 502, "cache": "MISS"}]))
-    said = []
-    edge.scrape(lambda name, labels, value: said.append((labels, value)), [])
-    print(f"a channel has {len(seen)} kinds of lines")
-    check("a channel's first fault is counted, however many kinds of lines others have", ({"channel": "late", "kind": "segment", "status": "502", "cache": "MISS"}, 1) in said, (len(seen), len(said)))
 
 
 def is_json(line):

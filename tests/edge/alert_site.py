@@ -7,8 +7,8 @@ import http.client
 import json
 import os
 import re
+import shutil
 import signal
-import socket
 import subprocess
 import threading
 import time
@@ -19,10 +19,6 @@ import harness
 from edge_site import OPERATOR, Edge
 from harness import ROOT, check, free_port
 from origins import Origin, init_section, unit, wait_for
-from scripts import use_tools
-
-use_tools()
-from hls_tools.ingests import Status  # noqa: E402
 
 RULES = os.path.join(ROOT, "deploy", "prometheus", "hls_rules.yml")
 # as the service has it, so that what is freed goes back to the system
@@ -86,7 +82,7 @@ def both(port, **more):
 # Channels
 
 class Channel:
-    """An origin, and its file where hls_metrics finds it."""
+    """An origin, its file, and the one by which Prometheus finds it."""
 
     def __init__(self, site, name, specs=TWO, options=OPTIONS):
         self.name, self.site, self.options, self.specs = name, site, options, list(specs)
@@ -94,7 +90,8 @@ class Channel:
         self.tell()
 
     def tell(self):
-        """Writes its file."""
+        """Writes its files."""
+        self.site.target(self.name, self.origin.port)
         with open(os.path.join(self.site.words, f"{self.name}.conf"), "w", encoding="utf-8") as file:
             file.write(f'# {self.name}\nOPTIONS="{" ".join(self.options)}"\nADDRESS="127.0.0.1:{self.origin.port}"\nRENDITIONS="{" ".join(self.specs)}"\n')
 
@@ -111,55 +108,37 @@ class Channel:
 # Who watches
 
 class Reports(threading.Thread):
-    """What an hls_ingest says of itself, each second, without one: it can count."""
+    """What an hls_ingest reports, each second, without one: it can count."""
 
     def __init__(self, site, name, stop=None):
         super().__init__(daemon=True)
-        self.site, self.name, self.a_second, self.stop = site, name, 0, stop or site.stop
-        self.status = Status(True, int(time.time()))
+        self.site, self.name, self.a_second, self.stop, self.left_out = site, name, 0, stop or site.stop, 0
         self.say()
         self.start()
 
     def say(self):
-        self.site.systemd({"Id": "hls_metrics.service", "ActiveState": "active"}, {"Id": f"hls_ingest@{self.name}.service", "ActiveState": "active", "StatusText": self.status})
+        self.site.text_file(f"hls_ingest_{self.name}", f'hls_ingest_input_up{{channel="{self.name}"}} 1\nhls_ingest_pictures_left_out_total{{channel="{self.name}"}} {self.left_out}\n')
 
     def run(self):
         while not self.stop.wait(1):
-            self.status.pictures_left_out += self.a_second
+            self.left_out += self.a_second
             try:
                 self.say()
             except FileNotFoundError:
                 return              # the site's folder is gone: all is over
 
 
-class Notified(threading.Thread):
-    """systemd's socket for an hls_ingest, whose status systemctl then shows."""
-
-    def __init__(self, site, name):
-        super().__init__(daemon=True)
-        self.site, self.name, self.said = site, name, ""
-        self.path = os.path.join(site.folder, f"{name}.notify")
-        self.socket = socket.socket(socket.AF_UNIX, socket.SOCK_DGRAM)
-        self.socket.bind(self.path)
-        self.start()
-
-    def run(self):
-        while True:
-            text = self.socket.recv(4096).decode()
-            if text.startswith("STATUS="):
-                self.said = text.removeprefix("STATUS=")
-                self.site.systemd({"Id": "hls_metrics.service", "ActiveState": "active"}, {"Id": f"hls_ingest@{self.name}.service", "ActiveState": "active", "StatusText": self.said})
-
-
 class Site:
     """A folder, and what runs in it beside channels."""
 
     def __init__(self, program, folder):
-        self.program, self.folder, self.words = program, folder, os.path.join(folder, "words")
-        self.commands = os.path.join(folder, "commands")
-        for path in (self.words, self.commands):
+        self.program, self.folder = program, folder
+        self.words, self.texts, self.targets = (os.path.join(folder, name) for name in ("words", "texts", "prometheus/hls_channels"))
+        for path in (self.words, self.texts, self.targets):
             os.makedirs(path)
-        self.metrics_port, self.edge, self.stop = free_port(), None, threading.Event()
+        self.ports = {"node": free_port(), "mtail": free_port(), "blackbox": free_port()}
+        self.edge, self.stop = None, threading.Event()
+        self.systemd()
 
     def edge_of(self, channels, changes=()):
         self.edge = Edge(self.folder, channels, changes=changes)
@@ -173,27 +152,42 @@ class Site:
                        check=True, stderr=subprocess.DEVNULL)
         self.edge.process.send_signal(signal.SIGHUP)
 
-    def systemd(self, *services):
-        """A systemctl that has these services, each by its properties."""
-        blocks = ["\n".join(f"{key}={value}" for key, value in {"Type": "simple", "NRestarts": "0", **own}.items()) for own in services]
-        path = os.path.join(self.commands, "systemctl")
+    def target(self, name, *ports):
+        """A channel's origins, as `hls_channel add` writes them for Prometheus."""
+        with open(os.path.join(self.targets, f"{name}.json"), "w", encoding="ascii") as file:
+            json.dump([{"targets": [f"127.0.0.1:{port}" for port in ports], "labels": {"channel": name}}], file)
+
+    def text_file(self, name, text):
+        """Metrics that the node exporter reads from a file."""
+        path = os.path.join(self.texts, f"{name}.prom")
         with open(path + ".new", "w", encoding="ascii") as file:
-            # without --all systemd's own leaves out what is inactive; this one says nothing then
-            file.write("#!/bin/sh\ncase \" $* \" in *' --all '*) ;; *) exit ;; esac\ncat <<'END'\n" + "\n\n".join(blocks) + "\nEND\n")
-        os.chmod(path + ".new", 0o755)
+            file.write(text)
         os.replace(path + ".new", path)
 
+    def systemd(self, **services):
+        """What the node exporter's systemd collector reports: each service's state. tests/manual/runbook has the real one."""
+        states = ("active", "activating", "deactivating", "failed", "inactive")
+        rows = [f'node_systemd_unit_state{{name="{name.replace("__", "@")}.service",state="{one}"}} {int(one == state)}\n' for name, state in services.items() for one in states]
+        self.text_file("units", "# HELP node_scrape_collector_success node_exporter: Whether a collector succeeded.\n# TYPE node_scrape_collector_success gauge\n"
+                       'node_scrape_collector_success{collector="systemd"} 1\n' + "".join(rows))
+
     def watch(self):
-        """hls_metrics on all of it."""
-        edge = self.edge and ["--edge-status", f"http://127.0.0.1:{self.edge.inner}/stub_status", "--edge-log", os.path.join(self.edge.folder, "hls_origin.log"),
-                              "--edge-folder", self.edge.files,
-                              "--edge-certificate", f"127.0.0.1:{self.edge.port}", "--edge-disk", os.path.join(self.edge.folder, "cache"), "--edge-disk", self.edge.folder]
-        units = ["--units"] if os.listdir(self.commands) else []
-        tool = harness.run(os.path.join(ROOT, "deploy", "hls_metrics"), "--channels", self.words, "--listen", f"127.0.0.1:{self.metrics_port}",
-                            *units, *(edge or []), stdin=subprocess.DEVNULL,
-                            stderr=open(os.path.join(self.folder, "metrics.log"), "a", encoding="utf-8"), env={**os.environ, "PATH": self.commands + ":" + os.environ["PATH"]})
-        wait_for(self.metrics_port)
-        return tool
+        """The exporters that look at all of it; the node exporter is returned."""
+        at = {name: f"127.0.0.1:{port}" for name, port in self.ports.items()}
+        node = self.exporter("node", "prometheus-node-exporter", f"--web.listen-address={at['node']}", "--collector.disable-defaults", "--collector.filesystem",
+                             "--collector.textfile", f"--collector.textfile.directory={self.texts}")
+        if self.edge:
+            shipped, programs = os.path.join(ROOT, "deploy", "prometheus"), os.path.join(self.folder, "mtail")
+            os.makedirs(programs)
+            shutil.copy(os.path.join(shipped, "hls_edge.mtail"), programs)
+            self.exporter("mtail", "mtail", "--progs", programs, "--address", "127.0.0.1", "--port", str(self.ports["mtail"]), "--logs", os.path.join(self.edge.folder, "hls_origin.log"))
+            self.exporter("blackbox", "prometheus-blackbox-exporter", f"--web.listen-address={at['blackbox']}", f"--config.file={shipped}/blackbox.yml")
+        return node
+
+    def exporter(self, name, *words):
+        process = harness.run(*words, stdin=subprocess.DEVNULL, stdout=subprocess.DEVNULL, stderr=open(os.path.join(self.folder, f"{name}.log"), "a", encoding="utf-8"))
+        wait_for(self.ports[name])
+        return process
 
     def every(self, seconds, act):
         """Does something again and again beside all else."""
@@ -205,11 +199,6 @@ class Site:
                     pass
                 self.stop.wait(seconds)
         threading.Thread(target=loop, daemon=True).start()
-
-    def said(self):
-        """What hls_metrics said on standard error."""
-        with open(os.path.join(self.folder, "metrics.log"), encoding="utf-8") as file:
-            return file.read()
 
 
 def divided(text, by):
@@ -223,12 +212,16 @@ class Prometheus:
 
     def __init__(self, site, by):
         self.folder, self.port = os.path.join(site.folder, "prometheus"), free_port()
-        os.makedirs(self.folder)
         with open(RULES, encoding="utf-8") as rules, open(os.path.join(self.folder, "hls_rules.yml"), "w", encoding="utf-8") as file:
             file.write(divided(rules.read(), by))
         with open(os.path.join(ROOT, "deploy", "prometheus", "prometheus.yml"), encoding="utf-8") as file:
             config = file.read().replace("15s", f"{round(15000 / by)}ms")
-        config = config.replace("127.0.0.1:9815", f"127.0.0.1:{site.metrics_port}")
+        if not site.edge:
+            config = config[:config.index("  # mtail: ")]
+        for name, usual in (("node", 9100), ("mtail", 3903), ("blackbox", 9115)):
+            config = config.replace(f"127.0.0.1:{usual}", f"127.0.0.1:{site.ports[name]}")
+        if site.edge:
+            config = config.replace("https://127.0.0.1", f"https://127.0.0.1:{site.edge.port}")
         with open(os.path.join(self.folder, "prometheus.yml"), "w", encoding="utf-8") as file:
             file.write(config)
         told = subprocess.run(["promtool", "check", "config", os.path.join(self.folder, "prometheus.yml")], capture_output=True, text=True)

@@ -3,7 +3,6 @@
 Not a script: tests/edge/programmes imports it.
 """
 import os
-import re
 import shutil
 import signal
 import subprocess
@@ -43,17 +42,8 @@ MASTER = "#EXTM3U\n#EXT-X-VERSION:6\n#EXT-X-STREAM-INF:BANDWIDTH=1000\n0.m3u8\n"
 MEDIA = "/hls/Run1/0/" + SEGMENT
 
 
-def media(content, total=None, said=None):
-    """A file that is loaded by ranges, and may say that it is of another length or another range."""
-    def reply(headers):
-        first, last = map(int, re.fullmatch(r"bytes=(\d+)-(\d+)", headers["Range"]).groups())
-        last = min(last, (total or len(content)) - 1)
-        return 206, {"Content-Range": said or f"bytes {first}-{last}/{total or len(content)}"}, content[first:last + 1]
-    return 206, {}, reply
-
-
 HONEST = {ADDRESS + "certificate.txt": (200, {}, CERTIFICATE.encode()), ADDRESS + "master.m3u8": (200, {}, MASTER.encode()), ADDRESS + "0.m3u8": (200, {}, LIST.encode()),
-          "/hls/Run1/0/init.mp4": media(INIT), MEDIA: media(UNITS)}
+          "/hls/Run1/0/init.mp4": (200, {}, INIT), MEDIA: (200, {}, UNITS)}
 
 
 def strangers(_, folder):
@@ -62,21 +52,24 @@ def strangers(_, folder):
         return {ADDRESS + name: (200, {}, body.encode())}
     lies = {
         "nothing": ({}, 0),
-        "a longer file": ({MEDIA: media(UNITS, len(UNITS) + 1)}, 1),
-        "a shorter file": ({MEDIA: media(UNITS, len(UNITS) - 1)}, 1),
-        "half of the units": ({MEDIA: media(UNITS[:len(UNITS) // 2])}, 1),
-        "another range": ({MEDIA: media(UNITS, said=f"bytes 1-{len(UNITS)}/{len(UNITS)}")}, 1),
-        "all of it in place of a range": ({MEDIA: (200, {}, UNITS)}, 1),
+        "a longer file": ({MEDIA: (200, {}, UNITS + b"x")}, 1),
+        "a shorter file": ({MEDIA: (200, {}, UNITS[:-1])}, 1),
+        "half of the units": ({MEDIA: (200, {}, UNITS[:len(UNITS) // 2])}, 1),
+        "other bytes of the same length": ({MEDIA: (200, {}, bytes(len(UNITS)))}, 1),
+        "a range": ({MEDIA: (206, {"Content-Range": f"bytes 0-{len(UNITS) - 1}/{len(UNITS)}"}, UNITS)}, 1),
+        "a segment of petabytes": (text("0.m3u8", LIST.replace(SEGMENT, f"{len(INIT)}-999999999999999.m4s")), 1),
+        "a list with another rendition's segment, too": (text("0.m3u8", LIST.replace("#EXT-X-ENDLIST", "#EXTINF:4.000000,\n../../../Run1/1/1520-1600.m4s\n#EXT-X-ENDLIST")), 1),
+        "a list with a key": (text("0.m3u8", LIST.replace("#EXTINF", '#EXT-X-KEY:METHOD=AES-128,URI="http://192.0.2.1/key"\n#EXTINF')), 1),
         "media that were trimmed meanwhile": ({MEDIA: (410, {}, b"refused Gone\n")}, 3),
-        "an endless file": ({MEDIA: (206, {"Content-Range": f"bytes 0-{len(UNITS) - 1}/{len(UNITS)}"}, None)}, 1),
-        "an init section that is none": ({"/hls/Run1/0/init.mp4": media(UNITS)}, 1),
+        "an endless file": ({MEDIA: (200, {}, None)}, 1),
+        "an init section that is none": ({"/hls/Run1/0/init.mp4": (200, {}, UNITS)}, 1),
         "an endless list": ({ADDRESS + "0.m3u8": (200, {}, None)}, 1),
         "an endless certificate": ({ADDRESS + "certificate.txt": (200, {}, None)}, 1),
         "a list that names a path": (text("0.m3u8", LIST.replace("../../../Run1/0/" + SEGMENT, "../../../../" + SEGMENT)), 1),
         "a list that names a URL": (text("0.m3u8", LIST.replace("../../../Run1/0/" + SEGMENT, "http://192.0.2.1/" + SEGMENT)), 1),
         "a list that names another rendition": (text("0.m3u8", LIST.replace("/0/" + SEGMENT, "/1/" + SEGMENT)), 1),
         "a list with the media of another run": (text("0.m3u8", LIST.replace("Run1/0/" + SEGMENT, "Run2/0/" + SEGMENT)), 1),
-        "a list with one byte less": (text("0.m3u8", LIST.replace("-1519.", "-1518.")) | {MEDIA.replace("-1519.", "-1518."): media(UNITS)}, 1),
+        "a list with one byte less": (text("0.m3u8", LIST.replace("-1519.", "-1518.")) | {MEDIA.replace("-1519.", "-1518."): (200, {}, UNITS)}, 1),
         "a list that isn't ended": (text("0.m3u8", LIST.replace("#EXT-X-ENDLIST\n", "")), 1),
         "another length than the plan's": (text("0.m3u8", LIST.replace("4.000000", "4.000001")), 1),
         "a master that names a path": (text("master.m3u8", MASTER.replace("0.m3u8", "../0.m3u8")), 1),

@@ -5,16 +5,21 @@
 They need no program but a stand-in for it, and no network but this machine's.
 """
 import http.server
+import json
 import os
 import sys
 import tempfile
 import threading
 import unittest
+import unittest.mock
 import uuid
 
-sys.path.insert(0, os.path.join(os.path.dirname(os.path.abspath(__file__)), "..", "..", "deploy"))
-from hls_tools import certificates, channel_checks, channels, edge, ingests, journals, origins, playlists, programmes  # noqa: E402
-from hls_tools.boxes import boxes, count_units, init_length, units_length  # noqa: E402
+sys.path.insert(0, os.path.join(os.path.dirname(os.path.abspath(__file__)), "..", "lib"))
+from scripts import DEPLOY, load_script, use_tools  # noqa: E402
+
+use_tools()
+from hls_tools import certificates, channel_checks, channels, edge, journals, origins, programmes  # noqa: E402
+from hls_tools.boxes import boxes, count_units, init_length  # noqa: E402
 from hls_tools.failures import Failure  # noqa: E402
 
 SAMPLES = os.path.join(os.path.dirname(os.path.abspath(__file__)), "..", "..", "samples")
@@ -33,7 +38,6 @@ class Boxes(unittest.TestCase):
         data = box(b"ftyp", b"isom") + box(b"moov", bytes(9)) + UNIT
         self.assertEqual([one.kind for one in boxes(data)], [b"ftyp", b"moov", b"moof", b"mdat"])
         self.assertEqual(init_length(data), 12 + 17)
-        self.assertEqual(units_length(data[29:]), len(UNIT))
 
     def test_large(self):
         found = list(boxes(box(b"mdat", bytes(5), large=True)))
@@ -41,7 +45,6 @@ class Boxes(unittest.TestCase):
 
     def test_parts(self):
         for cut in range(len(UNIT)):
-            self.assertEqual(units_length(UNIT[:cut]), 0)
             self.assertIsNone(count_units(UNIT[:cut]))
         self.assertEqual(count_units(UNIT * 3), 3)
         self.assertIsNone(count_units(UNIT + box(b"free", b"")))
@@ -55,39 +58,36 @@ class Boxes(unittest.TestCase):
             data = file.read()
         init = init_length(data)
         self.assertTrue(0 < init < len(data))
-        self.assertEqual(count_units(data[init:init + units_length(data[init:])]), 6)
+        end = max(one.end for one in boxes(data) if one.kind == b"mdat")
+        self.assertEqual(count_units(data[init:end]), 6)
 
 
 class Playlists(unittest.TestCase):
-    TEXT = ('#EXTM3U\n#EXT-X-VERSION:6\n#EXT-X-TARGETDURATION:6\n#EXT-X-MEDIA-SEQUENCE:0\n#EXT-X-PLAYLIST-TYPE:VOD\n#EXT-X-MAP:URI="0.mp4",BYTERANGE="600@0"\n'
-            "#EXT-X-PROGRAM-DATE-TIME:2026-01-01T00:00:00Z\n#EXTINF:4.000000,\n#EXT-X-BYTERANGE:1000@600\n0.mp4\n#EXT-X-DISCONTINUITY\n#EXTINF:0.040001,\n"
-            "#EXT-X-BYTERANGE:10@1600\n0.mp4\n#EXT-X-ENDLIST\n")
+    TEXT = ('#EXTM3U\n#EXT-X-VERSION:6\n#EXT-X-TARGETDURATION:6\n#EXT-X-MEDIA-SEQUENCE:0\n#EXT-X-PLAYLIST-TYPE:VOD\n#EXT-X-MAP:URI="../../../Run1/0/init.mp4"\n'
+            "#EXT-X-PROGRAM-DATE-TIME:2026-01-01T00:00:00Z\n#EXTINF:4.000000,\n../../../Run1/0/600-1599.m4s\n#EXT-X-DISCONTINUITY\n#EXTINF:0.040001,\n"
+            "../../../Run1/0/1600-1609.m4s\n#EXT-X-ENDLIST\n")
 
-    def test_round_trip(self):
-        found = playlists.read_media_playlist(self.TEXT)
-        self.assertEqual([one.duration_us for one in found.segments], [4000000, 40001])
-        self.assertEqual([one.discontinuity for one in found.segments], [False, True])
-        self.assertEqual(found.init, playlists.Map("0.mp4", 600))
-        self.assertTrue(found.is_whole())
-        self.assertEqual(playlists.write_media_playlist(found), self.TEXT)
-
-    def test_unknown_tags_are_ignored(self):
-        text = self.TEXT.replace("#EXT-X-ENDLIST\n", "#EXT-X-NEW:1\n#EXT-X-NEW:2\n# a comment\n")
-        self.assertFalse(playlists.read_media_playlist(text).is_whole())
+    def test_segments(self):
+        self.assertEqual(programmes.segments_of(self.TEXT, 0), [(4000000, "Run1", 600, 1599), (40001, "Run1", 1600, 1609)])
 
     def test_no_playlist(self):
-        for text in ("", "#EXTM3U\n", self.TEXT[:-1], self.TEXT.replace("#EXTINF:4.000000,\n", ""), self.TEXT.replace("4.000000", "4.0000000"), self.TEXT.replace("600@0", "600@1"),
-                     self.TEXT.replace("1000@600", "1000"), self.TEXT.replace("DURATION:6", "DURATION:-6"), self.TEXT.replace("#EXT-X-VERSION:6", "#EXT-X-VERSION:6\n#EXT-X-VERSION:6")):
-            with self.assertRaises(ValueError, msg=text[:200]):
-                playlists.read_media_playlist(text)
+        changes = (("#EXT-X-ENDLIST\n", ""), ("VOD", "EVENT"), ("600-1599", "599-1599.m4s\n../../../Run1/0/600-1599"), ("1600-", "1601-"), ("1600-1609", "1600-1599"),
+                   ("Run1/0/1600", "Run2/0/1600"), ("Run1/0/1600", "Run1/1/1600"), ("0/init", "1/init"), ("Run1/0/1600-1609.m4s", "Run1/0/init.mp4"), ("../../../Run1/0/1600", "http://a/1600"),
+                   ("0.040001", "0.04"), ("#EXT-X-MAP", "#EXT-X-MAP2"), ("1600-1609", "1600-9999999999"), ("#EXT-X-DISCONTINUITY", '#EXT-X-KEY:URI="a"'))
+        for old, new in changes:
+            with self.assertRaises(ValueError, msg=(old, new)):
+                programmes.segments_of(self.TEXT.replace(old, new), 0)
+        for text, number in ((self.TEXT, 1), ("", 0)):
+            with self.assertRaises(ValueError):
+                programmes.segments_of(text, number)
 
     def test_master(self):
         text = '#EXTM3U\n#EXT-X-MEDIA:TYPE=AUDIO,GROUP-ID="audio",URI="2.m3u8"\n#EXT-X-STREAM-INF:BANDWIDTH=1\n0.m3u8\n#EXT-X-STREAM-INF:BANDWIDTH=1\n1.m3u8\n'
-        self.assertEqual(playlists.read_master(text), ["2.m3u8", "0.m3u8", "1.m3u8"])
-        self.assertEqual(playlists.count_renditions(text), 3)
+        self.assertEqual(programmes.names_in(text), ["2.m3u8", "0.m3u8", "1.m3u8"])
+        self.assertEqual(programmes.count_renditions(text), 3)
         for wrong in (text.replace("1.m3u8", "3.m3u8"), text.replace("1.m3u8", "../1.m3u8"), "#EXTM3U\n"):
             with self.assertRaises(ValueError):
-                playlists.count_renditions(wrong)
+                programmes.count_renditions(wrong)
 
 
 class Certificates(unittest.TestCase):
@@ -115,15 +115,6 @@ class Certificates(unittest.TestCase):
 NEWS = ('OPTIONS="--target 4 --preferred 3840000 --epoch 1970-01-01T00:00:00Z"\nADDRESS="127.0.0.1:8080"\nRENDITIONS="v720:video:3000000:0 en:audio:128000:22000"\n'
         'SIZES="1280x720"\nRATE="25"\nGROUP="48"\nINPUT="srt://0.0.0.0:9000?mode=listener"\nEDGE="/news"\n')
 PROGRAM = '#!/bin/sh\nfor word; do case $word in --wrong) ;; --late | /var/*) [ "$1" = serve ] || continue ;; *) continue ;; esac; echo "$1: unrecognized option $word" >&2; exit 2; done\nprintf "media 1\\nLimitAS=100M\\nMemoryMax=200M\\n"\n'
-
-
-class Ingests(unittest.TestCase):
-    def test_status(self):
-        for status in (ingests.Status(), ingests.Status(True, 1764320000, 7, 2)):
-            self.assertEqual(ingests.read_status(str(status)), status)
-        for text in ("", "starting", "input maybe since 1; 0 pictures left out; 0 restarts of the encoder", "input gone since -1; 0 pictures left out; 0 restarts of the encoder",
-                     "input gone since 1; 1e999 pictures left out; 0 restarts of the encoder", str(ingests.Status()) + "\n"):
-            self.assertIsNone(ingests.read_status(text))
 
 
 class Channels(unittest.TestCase):
@@ -207,6 +198,41 @@ class Channels(unittest.TestCase):
         self.assertEqual(edge.read_channels(path), {"news": {"places": ["/news", "tv.example.org"], "origins": ["10.0.0.1:8080", "[::1]:8081"]}})
 
 
+class Watching(unittest.TestCase):
+    """What Prometheus and its node exporter are given of a channel, where they are installed."""
+
+    def test_channel(self):
+        tool = load_script(os.path.join(DEPLOY, "hls_channel"))
+        with tempfile.TemporaryDirectory() as folder:
+            tool.PROMETHEUS, tool.TEXT_FILES = (os.path.join(folder, name) for name in ("prometheus", "texts"))
+            values = {"ADDRESS": "0.0.0.0:8080", "STANDBY": "10.0.0.2:8080", "INPUT": "udp://127.0.0.1:9"}
+            tool.watch("news", values)
+            self.assertEqual(os.listdir(folder), [])
+            for path in (tool.PROMETHEUS, tool.TEXT_FILES):
+                os.mkdir(path)
+            for _ in range(2):
+                tool.watch("news", values)
+            tool.watch("sport", {"ADDRESS": "127.0.0.1:8081"})
+            targets, link = tool.watched_by("news")
+            with open(targets, encoding="ascii") as file:
+                self.assertEqual(json.load(file), [{"targets": ["127.0.0.1:8080", "10.0.0.2:8080"], "labels": {"channel": "news"}}])
+            self.assertEqual(os.readlink(link), "/run/hls_ingest/news/metrics.prom")
+            self.assertEqual(os.listdir(tool.TEXT_FILES), ["hls_ingest_news.prom"])
+
+    def test_input(self):
+        with tempfile.TemporaryDirectory() as folder, unittest.mock.patch.dict(os.environ, {"RUNTIME_DIRECTORY": folder}):
+            state = load_script(os.path.join(DEPLOY, "hls_ingest")).State("news")
+            state.set_input(True, 5)
+            state.count_left_out(7)
+            path = os.path.join(folder, "metrics.prom")
+            with open(path, encoding="ascii") as file:
+                text = file.read()
+            self.assertEqual(os.stat(path).st_mode & 0o777, 0o644)
+            for line in ('hls_ingest_input_up{channel="news"} 1', f'hls_ingest_input_since_seconds{{channel="news"}} {state.since}', 'hls_ingest_pictures_left_out_total{channel="news"} 7',
+                         'hls_ingest_encoder_restarts_total{channel="news"} 0', "# TYPE hls_ingest_encoder_restarts_total counter"):
+                self.assertIn(line + "\n", text)
+
+
 class Journals(unittest.TestCase):
     """Whose process writes a log, by its last complete start."""
 
@@ -272,14 +298,14 @@ class Client(unittest.TestCase):
 
     def test_put_off(self):
         self.replies["/a"] = [(503, {"Retry-After": "0"}, b""), (502, {}, b""), (200, {}, b"here")]
-        self.assertEqual(origins.Origin(self.address).ask("GET", "/a").body, b"here")
+        self.assertEqual(origins.Origin(self.address).ask("/a").body, b"here")
         self.replies["/b"] = [(503, {}, b"refused Memory\n")]
-        self.assertEqual(origins.Origin(self.address).ask("GET", "/b").status, 503)
+        self.assertEqual(origins.Origin(self.address).ask("/b").status, 503)
 
     def test_limits(self):
         self.replies["/long"] = [(200, {}, bytes(100))]
         with self.assertRaises(Failure):
-            origins.Origin(self.address).ask("GET", "/long", 99)
+            origins.Origin(self.address).ask("/long", 99)
         self.replies["/gone"] = [(404, {}, b"\x1b[2J")]
         with self.assertRaisesRegex(Failure, r"/gone is 404: \.\[2J"):
             origins.Origin(self.address).text("/gone")
@@ -287,16 +313,10 @@ class Client(unittest.TestCase):
     def test_nobody(self):
         self.server.shutdown()
         self.server.server_close()
-        with self.assertRaises(origins.Unreachable):
-            origins.Origin(self.address, patience=0).ask("GET", "/")
-
-    def test_cut(self):
-        self.replies["/a"] = [(200, {}, b"")]
         origin = origins.Origin(self.address)
-        self.assertEqual(origin.ask("GET", "/a").status, 200)
-        origin.cut()
+        origin.patience = 0
         with self.assertRaises(origins.Unreachable):
-            origin.ask("GET", "/a")
+            origin.ask("/")
 
     def test_refusals(self):
         wish = programmes.Wish("0", "4000000")
