@@ -10,6 +10,7 @@ import re
 import shutil
 import signal
 import subprocess
+import tempfile
 import threading
 import time
 import urllib.parse
@@ -137,7 +138,7 @@ class Site:
         for path in (self.words, self.texts, self.targets):
             os.makedirs(path)
         self.ports = {"node": free_port(), "mtail": free_port(), "blackbox": free_port()}
-        self.edge, self.stop = None, threading.Event()
+        self.edge, self.has_disk, self.stop = None, False, threading.Event()
         self.systemd()
 
     def edge_of(self, channels, changes=()):
@@ -174,8 +175,10 @@ class Site:
     def watch(self):
         """The exporters that look at all of it; the node exporter is returned."""
         at = {name: f"127.0.0.1:{port}" for name, port in self.ports.items()}
+        # file systems that other causes fill meanwhile are none of this one's
+        others = "^/(dev|proc|sys)($|/)" if self.has_disk else f"^(/dev|/proc|/sys|{tempfile.gettempdir()})($|/)"
         node = self.exporter("node", "prometheus-node-exporter", f"--web.listen-address={at['node']}", "--collector.disable-defaults", "--collector.filesystem",
-                             "--collector.textfile", f"--collector.textfile.directory={self.texts}")
+                             f"--collector.filesystem.mount-points-exclude={others}", "--collector.textfile", f"--collector.textfile.directory={self.texts}")
         if self.edge:
             shipped, programs = os.path.join(ROOT, "deploy", "prometheus"), os.path.join(self.folder, "mtail")
             os.makedirs(programs)
