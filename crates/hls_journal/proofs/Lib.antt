@@ -1,3 +1,4 @@
+pub mod Blocks
 pub mod Recorded
 pub mod Restored
 pub mod HighestFloors

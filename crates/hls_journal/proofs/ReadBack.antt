@@ -147,7 +147,7 @@ record Parts (body : List ℕ) (h : ChannelHeader) : Type 0 where
 
 parts_of : (body : List ℕ) (h : ChannelHeader) → IsHeader h → take header_len body ≡ header_bytes h → Parts body h
 parts_of body h header is =
-    let front : List ℕ = (0 ∷ []) ++ little_bytes 2 1 in
+    let front : List ℕ = (0 ∷ []) ++ little_bytes 2 2 in
     let base = base_bytes h.base in
     let rest = drop 188 body in
     let whole : body ≡ front ++ h.boot ++ base ++ rest = sym (take-append-drop 188 body) ∙ ap (λ t. t ++ rest) is in

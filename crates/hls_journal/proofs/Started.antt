@@ -3,7 +3,7 @@ use Rattle.std.proofs.Common.{◌≡◌, ◌∙◌, ℕ, ◌-◌, ◌<◌, ◌�
 use Rattle.std.proofs.lemmas.List.{take_at, drop_at, take-append-drop, length-drop}
 use Rattle.byteorder.specs.Endian.{little_bytes, little_number}
 use Rattle.byteorder.specs.Numbers.{little_number-reads_back, length-bytes_low_first}
-use Rattle.sqlite_disk.specs.Digest.{digest}
+use Rattle.hls_journal_log.specs.Checksum.{checksum_of}
 use Rattle.hls_core_laws.specs.declared.event.Event.{Event}
 use Rattle.hls_core_laws.specs.declared.event.Event.TheVariants.{Begin, Accept, Finish, Slide, Trim}
 use Rattle.hls_journal_laws.specs.Bodies.{kind_in, worker_in, rendition_in, init_section_in, number_in, unit_len_in, unit_checksum_in, unit_head_in}
@@ -113,7 +113,7 @@ unit_parts by r len sum head eight_long small =
 
 pub accept_body_of : (at by : ℕ) (e : Event) (r : ℕ) (unit body : List ℕ) → (f : _) → e ≡ Accept r f unit → IsUnitBody by r at unit body → by < 65536 → IsBodyOf by at e body
 accept_body_of at by e r unit body f event u small =
-    let sum8 : length (unit_checksum at unit) ≡ 8 = length-bytes_low_first 0 8 (digest at unit) in
+    let sum8 : length (unit_checksum at unit) ≡ 8 = length-bytes_low_first 0 8 (checksum_of at unit) in
     let told = unit_parts by r (length unit) (unit_checksum at unit) u.head sum8 u.short in
     let whole : body ≡ body_start 2 by r ++ (little_bytes 4 (length unit) ++ (unit_checksum at unit ++ u.head)) =
     u.is ∙ append_assoc (body_start 2 by r ++ little_bytes 4 (length unit)) (unit_checksum at unit) u.head ∙ append_assoc (body_start 2 by r) (little_bytes 4 (length unit)) (unit_checksum at unit ++ u.head) in

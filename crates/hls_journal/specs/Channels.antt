@@ -41,7 +41,7 @@ base_bytes b = b.run ++ little_bytes 8 b.segments ++ little_bytes 8 b.marks ++ (
 
 -- what precedes the configuration: the kind, the version of the format, the boot id, the base
 abbrev pub header_bytes : ChannelHeader → List ℕ
-header_bytes h = (0 ∷ []) ++ little_bytes 2 1 ++ h.boot ++ base_bytes h.base
+header_bytes h = (0 ∷ []) ++ little_bytes 2 2 ++ h.boot ++ base_bytes h.base
 
 -- the body: a header, and the configuration
 abbrev pub channel_bytes : ConfigData → ChannelHeader → List ℕ
@@ -111,10 +111,10 @@ DifferIn found given Renditions journal mine = (take 25 found ≡ take 25 given)
 
 -- a body is of the record of a channel in this version of the format, or isn't, for this reason
 abbrev pub JudgesVersion : List ℕ → Result (Unit {0}) JournalFault → Type 0
-JudgesVersion body (Ok _) = (3 ≤ length body) × (get_or body 0 0 ≡ 0) × (version_in body ≡ 1)
+JudgesVersion body (Ok _) = (3 ≤ length body) × (get_or body 0 0 ≡ 0) × (version_in body ≡ 2)
 JudgesVersion body (Err Memory) = ⊥
 JudgesVersion body (Err NoChannel) = (length body < 3) ⊎ (get_or body 0 0 ≢ 0)
-JudgesVersion body (Err (UnknownVersion version)) = (3 ≤ length body) × (get_or body 0 0 ≡ 0) × (version ≡ version_in body) × (version ≢ 1)
+JudgesVersion body (Err (UnknownVersion version)) = (3 ≤ length body) × (get_or body 0 0 ≡ 0) × (version ≡ version_in body) × (version ≢ 2)
 JudgesVersion body (Err (JournalOther field journal given)) = ⊥
 JudgesVersion body (Err (WrongRecord number)) = ⊥
 JudgesVersion body (Err (MissingUnit number)) = ⊥
@@ -133,8 +133,8 @@ JudgesConfigs found given (Err (MissingUnit number)) = ⊥
 abbrev pub IsChannelFault : ConfigData → List ℕ → JournalFault → Type 0
 IsChannelFault config body Memory = ⊤
 IsChannelFault config body NoChannel =
-    (length body < 3) ⊎ ((get_or body 0 0 ≢ 0) ⊎ ((version_in body ≡ 1) × (HasHeader body → ⊥)))
-IsChannelFault config body (UnknownVersion version) = (3 ≤ length body) × (get_or body 0 0 ≡ 0) × (version ≡ version_in body) × (version ≢ 1)
+    (length body < 3) ⊎ ((get_or body 0 0 ≢ 0) ⊎ ((version_in body ≡ 2) × (HasHeader body → ⊥)))
+IsChannelFault config body (UnknownVersion version) = (3 ≤ length body) × (get_or body 0 0 ≡ 0) × (version ≡ version_in body) × (version ≢ 2)
 IsChannelFault config body (JournalOther field journal given) =
     HasHeader body × DifferIn (config_in body) (config_bytes config) field journal given
 IsChannelFault config body (WrongRecord number) = ⊥

@@ -9,7 +9,7 @@ use crate::unit_head::find_head_len;
 use crate::{ACCEPTED, BEGUN, CLOSED, FINISHED, IDS, SLID, TRIMMED};
 use hls_boxes::kinds::UNIT_LIMIT;
 use hls_core_laws::event::Event;
-use sqlite_disk::digest_of;
+use hls_journal_log::checksum_of;
 use std::alloc::{AllocError, Global};
 
 /// Returns the body of a record of an event of the worker `by`. `at` is the offset of an accepted unit in its rendition's resource.
@@ -112,7 +112,7 @@ fn make_unit_body(
     };
     let mut body = begin_body(alloc, ACCEPTED, by, rendition)?;
     body.extend_from_slice(&(unit.len() as u32).to_le_bytes())?;
-    body.extend_from_slice(&digest_of(at, unit).to_le_bytes())?;
+    body.extend_from_slice(&checksum_of(at, unit).to_le_bytes())?;
     body.extend_from_slice(&unit[..head_len])?;
     Ok(body)
 }

@@ -12,6 +12,7 @@ mod floors;
 pub mod laws;
 mod restart;
 mod unit_head;
+mod zeros;
 
 pub use asides::{find_ids, is_closed};
 pub use bodies::{make_closed_body, make_event_body, make_ids_body};
@@ -20,9 +21,10 @@ pub use fault::{ConfigField, JournalFault};
 pub use floors::find_floors;
 pub use restart::{restore, restore_records};
 pub use unit_head::find_head_len;
+pub use zeros::push_zeros;
 
 /// The version of the format.
-pub const FORMAT_VERSION: u16 = 1;
+pub const FORMAT_VERSION: u16 = 2;
 
 /// The kinds of records, in the first byte of a body.
 pub const CHANNEL: u8 = 0;

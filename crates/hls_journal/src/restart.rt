@@ -15,9 +15,10 @@ ghost use Rattle.hls_journal.specs.Pieces.{IsBeforePieces, IsPieceAt, IsInPieceO
 use crate::channel::read_channel;
 use crate::fault::{JournalFault, RecallFault};
 use crate::floors::find_floors;
+use crate::zeros::push_zeros;
 use crate::{ACCEPTED, BEGUN, CLOSED, FINISHED, IDS, SLID, TRIMMED, UNIT_HEAD_AT};
 use byteorder::{ByteOrder, LittleEndian};
-use bytes::{Bytes, BytesMut};
+use bytes::Bytes;
 use hls_boxes::kinds::UNIT_LIMIT;
 use hls_core::config::Config;
 use hls_core::snapshot::Snapshot;
@@ -26,10 +27,10 @@ use hls_core::stepped::Stepped;
 use hls_core_laws::event::Event;
 use hls_core_laws::refusal::Refusal;
 use hls_journal_laws::stored_media::{MediaPiece, StoredMedia};
+use hls_journal_log::checksum_of;
 use hls_media::{read_facts, read_init};
 use hls_media_laws::fault::MediaFault;
 use hls_record::Recording;
-use sqlite_disk::digest_of;
 use std::alloc::{AllocError, Global};
 use std::sync::Arc;
 
@@ -309,10 +310,10 @@ fn pad(alloc: Global, head: &[u8], len: usize) -> Result<Bytes, AllocError>
     requires { length head.now ≤ len }
     ensures { IfOk result (λ bytes. bytes ≡ head.now ++ replicate (len - length head.now) 0) }
 {
-    let mut bytes = BytesMut::with_capacity(alloc, len)?;
+    let mut bytes = Vec::with_capacity(alloc, len)?;
     bytes.extend_from_slice(head)?;
-    bytes.resize(len, 0)?;
-    Ok(bytes.freeze()?)
+    push_zeros(&mut bytes, len - head.len())?;
+    Ok(Bytes::from_vec(bytes)?)
 }
 
 /// Returns the stored unit at this offset, if it has the record's checksum.
@@ -366,7 +367,7 @@ fn read_piece(at: u64, piece: &MediaPiece, body: &[u8]) -> Result<Bytes, RecallF
         return Err(RecallFault::Missing);
     }
     let bytes = piece.bytes.slice(from as usize..(from + len) as usize)?;
-    let sum = digest_of(at, &bytes).to_le_bytes();
+    let sum = checksum_of(at, &bytes).to_le_bytes();
     if body[8..UNIT_HEAD_AT] != sum[..] {
         return Err(RecallFault::Missing);
     }

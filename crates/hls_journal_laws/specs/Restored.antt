@@ -1,7 +1,7 @@
 -- The state that records and stored media restore.
 use Rattle.std.specs.Prelude.{◌≡◌, ◌⊎◌, ℕ, ◌+◌, ◌-◌, ◌<◌, ◌≤◌, Some, List, [], ◌∷◌, ◌++◌, length, replicate, slice_get, slice_range, Contains}
 use Rattle.byteorder.specs.Endian.{little_bytes}
-use Rattle.sqlite_disk.specs.Digest.{digest}
+use Rattle.hls_journal_log.specs.Checksum.{checksum_of}
 use Rattle.hls_media_laws.specs.InitData.{InitData}
 use Rattle.hls_media_laws.specs.declared.facts.Facts.{Facts}
 use Rattle.hls_core_laws.specs.declared.event.Event.{Event}
@@ -25,7 +25,7 @@ IsStored m at len bytes = (p : MediaPiece) × Contains m.pieces.items p × IsInP
 
 -- the checksum of a unit, which covers its offset
 abbrev pub unit_checksum : ℕ → List ℕ → List ℕ
-unit_checksum at bytes = little_bytes 8 (digest at bytes)
+unit_checksum at bytes = little_bytes 8 (checksum_of at bytes)
 
 -- the bytes that replace a unit that is trimmed in the end: its head, and zeros up to its length
 pub record IsTrimmedUnit (body bytes : List ℕ) : Type 0 where

@@ -4,7 +4,7 @@ use Rattle.std.proofs.lemmas.List.{take_at, drop_at, append_cancel_left}
 use Rattle.std.proofs.lemmas.List.Elements.{All-head, All-tail}
 use Rattle.byteorder.specs.Endian.{little_bytes, little_number}
 use Rattle.byteorder.specs.Numbers.{little_number-reads_back, length-bytes_low_first}
-use Rattle.sqlite_disk.specs.Digest.{digest}
+use Rattle.hls_journal_log.specs.Checksum.{checksum_of}
 use Rattle.hls_journal_log.specs.declared.ending.Ending.{Ending}
 use Rattle.hls_journal_log.specs.declared.ending.Ending.TheVariants.{Complete, Torn, Corrupt}
 use Rattle.hls_journal_log.specs.Records.{header_len, body_limit, checksum, record_bytes, log_bytes, AreWithinLimit, body_len_in, checksum_in, body_in}
@@ -33,7 +33,7 @@ length_len : (body : List ℕ) → length (little_bytes 4 (length body)) ≡ 4
 length_len body = length-bytes_low_first 0 4 (length body)
 
 length_sum : (number : ℕ) (body : List ℕ) → length (checksum number body) ≡ 8
-length_sum number body = length-bytes_low_first 0 8 (digest number body)
+length_sum number body = length-bytes_low_first 0 8 (checksum_of number body)
 
 pub length_record : (number : ℕ) (body : List ℕ) → length (record_bytes number body) ≡ 12 + length body
 length_record number body =

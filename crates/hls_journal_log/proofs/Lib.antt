@@ -1,3 +1,4 @@
+pub mod Checksums
 pub mod Headers
 pub mod Prefixes
 pub mod Steps

@@ -1,3 +1,4 @@
+pub mod Checksum
 pub mod Records
 pub mod Reading
 pub mod SyncPoints

@@ -1,7 +1,7 @@
 -- The bytes of records.
 use Rattle.std.specs.Prelude.{◌≡◌, ℕ, suc, ◌+◌, ◌≤◌, List, [], ◌∷◌, ◌++◌, length, take, drop, All}
 use Rattle.byteorder.specs.Endian.{little_bytes, little_number}
-use Rattle.sqlite_disk.specs.Digest.{digest}
+use Rattle.hls_journal_log.specs.Checksum.{checksum_of}
 
 -- the bytes before a body
 abbrev pub header_len : ℕ
@@ -13,7 +13,7 @@ body_limit = 134217728
 
 -- the checksum of a record, which covers its number
 abbrev pub checksum : ℕ → List ℕ → List ℕ
-checksum number body = little_bytes 8 (digest number body)
+checksum number body = little_bytes 8 (checksum_of number body)
 
 -- a record: the body's length in four bytes, the checksum in eight, the body
 abbrev pub record_bytes : ℕ → List ℕ → List ℕ

@@ -7,6 +7,7 @@
 //! in it names, then synced bytes are damaged, and [`read_log`] refuses it; any other incomplete tail is what a crash may leave.
 #![tactic(auto)]
 
+mod checksum;
 mod ending;
 mod fault;
 pub mod laws;
@@ -16,6 +17,7 @@ mod read;
 mod sync_point;
 mod write;
 
+pub use checksum::checksum_of;
 pub use ending::Ending;
 pub use fault::LogFault;
 pub use log::Log;

@@ -4,11 +4,11 @@ ghost use Rattle.std.specs.Prelude.{◌≡◌, ◌+◌, ◌<◌, ◌≤◌, ◌^
 ghost use Rattle.hls_journal_log.specs.Records.{log_bytes, body_len_in, IsRecord};
 ghost use Rattle.hls_journal_log.specs.Reading.{Reads, Stops, IsRecordAndRest};
 
+use crate::checksum::checksum_of;
 use crate::ending::Ending;
 use crate::{BODY_LIMIT, HEADER_LEN};
 use byteorder::{ByteOrder, LittleEndian};
 use bytes::Bytes;
-use sqlite_disk::digest_of;
 use std::alloc::{AllocError, Global};
 
 /// The records of a log, up to the first that isn't complete.
@@ -42,7 +42,7 @@ fn read_record(text: &[u8], number: u64) -> Result<usize, Ending>
     if text.len() < HEADER_LEN + len {
         return Err(Ending::Torn);
     }
-    let sum = digest_of(number, &text[HEADER_LEN..HEADER_LEN + len]).to_le_bytes();
+    let sum = checksum_of(number, &text[HEADER_LEN..HEADER_LEN + len]).to_le_bytes();
     if text[4..HEADER_LEN] != sum[..] {
         return Err(Ending::Corrupt);
     }

@@ -3,10 +3,10 @@
 ghost use Rattle.std.specs.Prelude.{◌≡◌, ◌↔◌, IsTrue, MatchOption};
 ghost use Rattle.hls_journal_log.specs.SyncPoints.{IsSyncPoint, synced_in, HasSyncPointBeyond};
 
+use crate::checksum::checksum_of;
 use crate::write::SYNC_MARK;
 use crate::{HEADER_LEN, SYNC_POINT_LEN};
 use byteorder::{ByteOrder, LittleEndian};
-use sqlite_disk::digest_of;
 
 /// Returns the synced length that the sync point at the start of a text names, if there is one.
 fn read_sync_point(text: &[u8]) -> Option<u64>
@@ -22,7 +22,7 @@ fn read_sync_point(text: &[u8]) -> Option<u64>
         return None;
     }
     let number = LittleEndian::read_u64(&text[20..]);
-    let sum = digest_of(number, &text[HEADER_LEN..HEADER_LEN + SYNC_POINT_LEN]).to_le_bytes();
+    let sum = checksum_of(number, &text[HEADER_LEN..HEADER_LEN + SYNC_POINT_LEN]).to_le_bytes();
     if text[4..HEADER_LEN] != sum[..] {
         return None;
     }

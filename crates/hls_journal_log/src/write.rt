@@ -4,8 +4,8 @@ ghost use Rattle.std.specs.Prelude.{◌≡◌, ◌+◌, ◌<◌, ◌≤◌, ◌^
 ghost use Rattle.hls_journal_log.specs.Records.{record_bytes, log_bytes, AreWithinLimit};
 ghost use Rattle.hls_journal_log.specs.SyncPoints.{sync_point_body};
 
+use crate::checksum::checksum_of;
 use bytes::Bytes;
-use sqlite_disk::digest_of;
 use std::alloc::{AllocError, Global};
 
 /// What marks the body of a sync point.
@@ -17,7 +17,7 @@ pub(crate) fn push_record(out: &mut Vec<u8>, number: u64, body: &[u8]) -> Result
     ensures { OnOk result (out.new.items ≡ out.old.items ++ record_bytes number body.now) }
 {
     let len = body.len() as u32;
-    let sum = digest_of(number, body);
+    let sum = checksum_of(number, body);
     out.extend_from_slice(&len.to_le_bytes())?;
     out.extend_from_slice(&sum.to_le_bytes())?;
     out.extend_from_slice(body)?;

@@ -4,3 +4,4 @@ pub mod Batches
 pub mod Writes
 pub mod Followed
 pub mod StartRecords
+pub mod OlderFormats

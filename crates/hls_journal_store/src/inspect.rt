@@ -1,26 +1,25 @@
 //! Reports what a journal's folder holds, and closes the journal of a process that has ended.
 
-use crate::batch::RENDITIONS;
+use crate::batch::{RENDITIONS, into_bytes};
 use crate::boot_id::{is_same_boot, read_boot_id};
 use crate::fault::{OpenFault, StorePart, open_fault};
 use crate::kept_units::{MediaIndex, find_kept_units};
-use crate::media_read::{freeze, make_zeros, read_unit};
+use crate::media_read::{read_pieces, read_unit};
 use crate::media_span::find_span;
 use crate::media_starts::MediaStarts;
 use crate::media_track::{media_path, open_and_sync};
+use crate::older_format::{check_format, check_text};
 use crate::records::append_closed;
 use crate::start_record::{StartRecord, find_start};
 use crate::store_paths::{StorePaths, is_there};
 use crate::sync_mode::SyncMode;
 use bytes::Bytes;
 use hls_journal::is_closed;
-use hls_journal_log::{LogContent, begin_log, read_disk, read_log};
-use sqlite_disk::digest_of;
+use hls_journal_log::{LogContent, begin_log, checksum_of, read_disk, read_log};
 use std::alloc::Global;
 use std::fs::{self, File};
 use std::io::{self, ErrorKind};
 use std::ops::Range;
-use std::os::unix::fs::FileExt;
 use std::rt::Files;
 
 /// What a journal's folder holds.
@@ -57,6 +56,7 @@ pub fn inspect_store<R: Files<File = File>>(
     let paths = StorePaths::new(alloc, folder)?;
     let text = read_file(rt, alloc, &paths.log)?;
     let content = read_log(alloc, &text)?;
+    check_text(&content.bodies, &text)?;
     let index = find_kept_units(alloc, &content.bodies)?;
     let boot = read_boot_id(rt);
     let last = last_start(&content.bodies);
@@ -94,7 +94,7 @@ fn check_units<R: Files<File = File>>(
 ) -> Result<(), OpenFault> {
     for unit in &index.units {
         match read_unit(rt, alloc, folder, unit, starts)? {
-            Some(bytes) if digest_of(unit.at, &bytes) == unit.sum => {
+            Some(bytes) if checksum_of(unit.at, &bytes) == unit.sum => {
                 report.media_bytes = report.media_bytes.saturating_add(unit.len as u64);
             }
             _ => report.missing = report.missing.saturating_add(1),
@@ -113,9 +113,9 @@ pub(crate) fn read_file<R: Files<File = File>>(
         Ok(opened) => opened,
         Err(error) => return Err(open_fault(StorePart::Log, error)),
     };
-    let mut text = make_zeros(alloc, len)?;
-    match file.read_exact_at(&mut text, 0) {
-        Ok(()) => Ok(freeze(text)?),
+    let mut text = Vec::with_capacity(alloc, len)?;
+    match read_pieces(&file, 0, len, &mut text) {
+        Ok(()) => Ok(into_bytes(text)?),
         Err(error) => Err(open_fault(StorePart::Log, error)),
     }
 }
@@ -144,6 +144,7 @@ pub fn close_store<R: Files<File = File>>(
     let _lock = paths.lock(rt)?;
     let mut disk = paths.open_log(rt)?;
     let read = read_disk(alloc, &mut disk)?;
+    check_format(&mut disk, &read)?;
     if read.content.bodies.is_empty() || is_closed(&read.content.bodies) {
         return Ok(());
     }

@@ -25,6 +25,7 @@ mod media_read;
 mod media_span;
 mod media_starts;
 mod media_track;
+mod older_format;
 mod records;
 mod renewal;
 mod restored;

@@ -11,6 +11,7 @@ use crate::long_log::{is_renewal_due, renew_channel};
 use crate::media_files::MediaFiles;
 use crate::media_starts::MediaStarts;
 use crate::media_track::remove_before;
+use crate::older_format::check_format;
 use crate::renewal::renew_store;
 use crate::restored::{Source, count_bytes, count_synced, restore_prefix};
 use crate::start_record::{StartRecord, choose_run, find_start, with_run};
@@ -157,6 +158,7 @@ fn open_log<R: Files<File = File>>(
 ) -> Result<OpenLog, OpenFault> {
     let mut disk = paths.open_log(rt)?;
     let mut read = read_disk(alloc, &mut disk)?;
+    check_format(&mut disk, &read)?;
     let channel = find_channel(rt, alloc, &paths.media, config, &read, own)?;
     if channel.start.same_boot && !channel.start.was_closed {
         // the log says what is synced, and means its media too

@@ -9,6 +9,6 @@ returns c =
     (take c.in-Some.head_len c.args.unit.now) c.extend_from_slice-3.new.self.items
     (omega (arith, c.if-unit-gt-UNIT_LIMIT.false)) c.in-Some.ensures.0 c.in-Some.ensures.1 c.in_ok-body.ensures
     (c.in_ok-extend_from_slice.ensures.items ∙ ap (λ xs. c.in_ok-body.body.items ++ xs) c.to_le_bytes.ensures)
-    (c.in_ok-extend_from_slice-2.ensures.items ∙ ap (λ xs. c.extend_from_slice.new.self.items ++ xs) (c.to_le_bytes-2.ensures ∙ ap (λ k. to_le_bytes w64 k) c.digest_of.ensures.value))
+    (c.in_ok-extend_from_slice-2.ensures.items ∙ ap (λ xs. c.extend_from_slice.new.self.items ++ xs) (c.to_le_bytes-2.ensures ∙ ap (λ k. to_le_bytes w64 k) c.checksum_of.ensures))
     refl
     c.in_ok-extend_from_slice-3.ensures.items

@@ -7,5 +7,5 @@ pub returns : goal.returns
 returns c =
     record_pushed c.args.out.now.items c.args.number c.args.body.now c.extend_from_slice.new.self.items c.extend_from_slice-2.new.self.items c.extend_from_slice-3.new.self.items
     (c.in_ok-extend_from_slice.ensures.items ∙ ap (λ xs. c.args.out.now.items ++ xs) c.to_le_bytes.ensures)
-    (c.in_ok-extend_from_slice-2.ensures.items ∙ ap (λ xs. c.extend_from_slice.new.self.items ++ xs) (c.to_le_bytes-2.ensures ∙ ap (λ k. to_le_bytes w64 k) c.digest_of-sum.ensures.value))
+    (c.in_ok-extend_from_slice-2.ensures.items ∙ ap (λ xs. c.extend_from_slice.new.self.items ++ xs) (c.to_le_bytes-2.ensures ∙ ap (λ k. to_le_bytes w64 k) c.checksum_of-sum.ensures))
     c.in_ok-extend_from_slice-3.ensures.items
