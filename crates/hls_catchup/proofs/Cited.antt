@@ -1,5 +1,5 @@
 -- The lemmas of other crates that this one cites, named once. Declares nothing.
-pub use Rattle.hls_core_laws.proofs.Callers.{lanes_count, source_of, sources_count}
+pub use Rattle.hls_core_laws.proofs.Callers.{at_beside, at_or, kept-goes-on, lane_grown, lanes_count, source_of, sources_count}
 pub use Rattle.hls_playlists_laws.proofs.Callers.{bytes_are, media_are_the_units, number_uri, segments_are_good}
 pub use Rattle.hls_m3u8.proofs.Building.{vod_has_text}
 pub use Rattle.hls_media_laws.proofs.Callers.{at_drop, at_snoc, inits_are_bounded, some_at, units_are_bounded}

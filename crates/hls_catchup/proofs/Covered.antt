@@ -1,9 +1,9 @@
 -- The units in a programme's table are kept.
-use Rattle.std.proofs.Common.{◌≡◌, ℕ, zero, suc, ◌+◌, ◌-◌, ◌≤◌, ℤ, Option, List, [], ◌∷◌, length, map, drop, Some, Bool, true, arith, refl, sym, ap, subst, ◌∙◌, All, Ok}
+use Rattle.std.proofs.Common.{◌≡◌, ℕ, zero, suc, ◌+◌, ◌-◌, ◌≤◌, ℤ, Option, List, [], ◌∷◌, length, map, drop, Some, Bool, true, arith, refl, sym, ap, subst, inl, inr, ◌∙◌, All, Ok}
 use Rattle.std.specs.Prelude.{slice_get, ⊤, nat_le}
 use Rattle.std.specs.List.{filter, slice_range}
-use Rattle.std.proofs.lemmas.Bool.{cond_both, and_parts, leb-true}
-use Rattle.std.proofs.lemmas.List.{length-map}
+use Rattle.std.proofs.lemmas.Bool.{cases_lt, cond_both, and_parts, leb-true}
+use Rattle.std.proofs.lemmas.List.{get_or_past, length-map}
 use Rattle.std.proofs.lemmas.List.Elements.{All-nil, All-cons, All-head, All-tail, All-map, All-take, All-drop, All-get_or}
 use Rattle.hls_media_laws.specs.declared.facts.Facts.{Facts}
 use Rattle.hls_check_tables.specs.declared.spot.Spot.{Spot}
@@ -95,9 +95,9 @@ within-at (first ∷ recordings) (spot ∷ spots) within zero recorded at =
     subst (λ (x : RecordingData). (x.floor ≤ spot.fragment) × (spot.fragment ≤ length x.facts)) same (within.0, within.1)
 within-at (first ∷ recordings) (spot ∷ spots) within (suc r) recorded at = within-at recordings spots within.2 r recorded at
 
-pub table-covered : (s : State) (request : Request) (t : Table) (recordings : List RecordingData) → AreRecordings s recordings → IsTable t →
-    IsTableFor s request (Ok t) → AreCovered t recordings
-table-covered s request t recordings are valid is =
+-- each place of a programme's table is within the recordings
+table-within : (s : State) (request : Request) (t : Table) (recordings : List RecordingData) → AreRecordings s recordings → IsTableFor s request (Ok t) → All (Within recordings) t.places
+table-within s request t recordings are is =
     let places : List Place = kept_places s in
     let found = is.programme.0 in
     let cut : table_between (goal_for s request) places found.s found.e ≡ t = sym found.is in
@@ -105,7 +105,22 @@ table-covered s request t recordings are valid is =
     let P : Place → Type 0 = λ p. Within recordings p.spots in
     let all : All P range = All-take P (found.e + 1 - found.s) (drop found.s places) (All-drop P found.s places (state-within s recordings are)) in
     let listed : All (Within recordings) (map (λ (p : Place). p.spots) range) = All-map (Within recordings) (λ (p : Place). p.spots) range all in
-    let tabled : All (Within recordings) t.places = subst (λ (x : Table). All (Within recordings) x.places) cut listed in
+    subst (λ (x : Table). All (Within recordings) x.places) cut listed
+
+none-spot : (r n : ℕ) → (spot_in [] r).fragment ≤ n
+none-spot r n = omega arith
+
+pub places-within : (s : State) (request : Request) (t : Table) (recordings : List RecordingData) → AreRecordings s recordings → IsTableFor s request (Ok t) →
+    (p r : ℕ) (recorded : RecordingData) → slice_get recordings r ≡ Some recorded → (spot_in (place_at t.places p) r).fragment ≤ length recorded.facts
+places-within s request t recordings are is p r recorded at = elim (cases_lt p (length t.places)) [
+  | inl less ↦ (within-at recordings (place_at t.places p) (All-get_or (Within recordings) t.places p [] less (table-within s request t recordings are is)) r recorded at).1
+  | inr past ↦ subst (λ (place : List Spot). (spot_in place r).fragment ≤ length recorded.facts) (sym (get_or_past t.places p [] past)) (none-spot r (length recorded.facts))
+]
+
+pub table-covered : (s : State) (request : Request) (t : Table) (recordings : List RecordingData) → AreRecordings s recordings → IsTable t →
+    IsTableFor s request (Ok t) → AreCovered t recordings
+table-covered s request t recordings are valid is =
+    let tabled : All (Within recordings) t.places = table-within s request t recordings are is in
     let count : 2 ≤ length t.places = valid.count.0 in
     let first : Within recordings (place_at t.places 0) = All-get_or (Within recordings) t.places 0 [] (omega arith) tabled in
     let last : Within recordings (place_at t.places (length t.places - 1)) = All-get_or (Within recordings) t.places (length t.places - 1) [] (omega arith) tabled in

@@ -6,6 +6,7 @@ mod States
 mod Tables
 mod Bounded
 mod Covered
+mod AnswersStay
 mod Slices
 mod Spans
 mod Plays

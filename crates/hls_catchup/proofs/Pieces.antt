@@ -3,6 +3,7 @@ use Rattle.std.proofs.Common.{◌≡◌, ℕ, zero, suc, ◌+◌, ◌-◌, ◌<�
 use Rattle.std.proofs.lemmas.Bool.{cases_lt, lt-ltb, le-ltb}
 use Rattle.std.specs.Prelude.{slice_get}
 use Rattle.std.specs.List.{concat}
+use Rattle.hls_media_laws.specs.{InitData.InitData, IsInitOrUnit.IsUnit}
 use Rattle.hls_media_laws.specs.declared.facts.Facts.{Facts}
 use Rattle.hls_catchup.proofs.Cited.{units_are_bounded, at_drop, no_piece, bytes_are}
 use Rattle.hls_record.specs.RecordingData.{RecordingData, offset_at, unit_piece, piece_at}
@@ -23,13 +24,18 @@ same_lengths (f ∷ fs) (u ∷ us) lens long =
     let rest : map len_of fs ≡ map length us = same_lengths fs us (λ k g v at_g at_v. lens (suc k) g v at_g at_v) (omega arith) in
     ap (λ n. n ∷ map len_of fs) here ∙ ap (λ ns. length u ∷ ns) rest
 
--- a recording's kept units are as long as their facts say
+-- kept units are as long as their facts say
+pub lengths_of : (init : InitData) (facts : List Facts) (floor : ℕ) (units : List (List ℕ)) → floor + length units ≡ length facts
+    → ((k : ℕ) (f : Facts) (unit : List ℕ) → slice_get facts (floor + k) ≡ Some f → slice_get units k ≡ Some unit → IsUnit init unit f) → HaveLengths facts floor units
+lengths_of init facts floor units kept fits =
+    let count : length (drop floor facts) ≡ length facts - floor = length-drop floor facts in
+    same_lengths (drop floor facts) units
+    (λ k f u at_f at_u. (units_are_bounded init u f (fits k f u (sym (at_drop facts floor k) ∙ at_f) at_u)).len_is)
+    (omega (arith, kept))
+
+-- .. and so are a recording's
 pub have_lengths : (r : RecordingData) → IsRecorded r → HaveLengths r.facts r.floor r.units
-have_lengths r valid =
-    let count : length (drop r.floor r.facts) ≡ length r.facts - r.floor = length-drop r.floor r.facts in
-    same_lengths (drop r.floor r.facts) r.units
-    (λ k f u at_f at_u. (units_are_bounded r.init u f (valid.fits k f u (sym (at_drop r.facts r.floor k) ∙ at_f) at_u)).len_is)
-    (omega (arith, valid.kept))
+have_lengths r valid = lengths_of r.init r.facts r.floor r.units valid.kept valid.fits
 
 pub resource_long : (r : RecordingData) (first end : ℕ) → IsRecorded r → r.floor ≤ first →
     length (resource_of r.head r.floor r.units first end) ≡ length r.head + bytes_between r.facts first end

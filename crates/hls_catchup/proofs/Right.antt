@@ -67,7 +67,8 @@ length_lists : (epoch : Option ℤ) (first : ℕ) (recordings : List RecordingDa
 length_lists epoch first [] t plan = refl
 length_lists epoch first (r ∷ recordings) t plan = ap suc (length_lists epoch (suc first) recordings t plan)
 
-within : {A : Type 0} (xs : List A) (k : ℕ) (x : A) → slice_get xs k ≡ Some x → k < length xs
+-- an element's index
+pub within : {A : Type 0} (xs : List A) (k : ℕ) (x : A) → slice_get xs k ≡ Some x → k < length xs
 within [] k x at = cc
 within (y ∷ xs) zero x at = omega arith
 within (y ∷ xs) (suc k) x at = let rest : k < length xs = within xs k x at in omega arith

@@ -18,7 +18,7 @@ use Rattle.hls_places_laws.specs.Programmes.{is_kept, filter_kept, table_between
 use Rattle.hls_catchup.specs.declared.programme.Programme.{Programme}
 use Rattle.hls_catchup.specs.declared.request.Request.{Request}
 use Rattle.hls_catchup.specs.declared.fault.CatchFault.TheVariants.{BeforeRecording, NotYet, AfterRecording, ProgrammeTooLong}
-use Rattle.hls_catchup.specs.KeptPlaces.{PlacesAndFloors, places_and_floors_of, all_kept_places, kept_places_from, IsLastBy}
+use Rattle.hls_catchup.specs.KeptPlaces.{PlacesAndFloors, places_and_floors_of, kept_places_from, IsLastBy}
 use Rattle.hls_catchup.specs.Requests.{all_finished, goal_for, IsInRange, IsTableFor}
 use Rattle.hls_catchup.specs.Programmes.{programme_table, ArePlacesFor}
 use Rattle.hls_catchup.proofs.Walks.{after-later, from-later}
@@ -95,41 +95,37 @@ past_shown : (s : State) (request : Request) (over : Bool) → all_finished s �
 past_shown s request true is range late = record { in_range = range; programme = (late, is) }
 past_shown s request false is range late = record { in_range = range; programme = (late, is) }
 
-pub past_all : (s : State) (request : Request) (k : PlacesAndFloors) (n : ℕ) → AreSources (sources s) → k ≡ places_and_floors_of s → IsInRange s request →
-    IsLastBy k request.start_us n → length (kept_places_from k n) ≤ first_from request.stop_us (kept_places_from k n) →
+pub past_all : (s : State) (request : Request) (n : ℕ) → AreSources (sources s) → IsInRange s request →
+    IsLastBy (places_and_floors_of s) request.start_us n →
+    length (kept_places_from (places_and_floors_of s) n) ≤ first_from request.stop_us (kept_places_from (places_and_floors_of s) n) →
     IsTableFor s request (Err (if all_finished s then AfterRecording else NotYet))
-past_all s request k n are same range found end =
-    let last : IsLastBy (places_and_floors_of s) request.start_us n = subst (λ (x : PlacesAndFloors). IsLastBy x request.start_us n) same found in
-    let past : length (kept_places_from (places_and_floors_of s) n) ≤ first_from request.stop_us (kept_places_from (places_and_floors_of s) n) =
-    subst (λ (x : PlacesAndFloors). length (kept_places_from x n) ≤ first_from request.stop_us (kept_places_from x n)) same end in
+past_all s request n are range last past =
     let apart = are_apart s request n range last in
     let late : length (kept_places s) ≤ first_from request.stop_us (kept_places s) = omega (arith, apart.to, apart.long) in
     past_shown s request (all_finished s) refl range
     (stops-late (kept_places s) (kept-are_places s are) request.start_us request.stop_us apart.some late)
 
-pub none_before : (s : State) (request : Request) (k : PlacesAndFloors) → AreSources (sources s) → k ≡ places_and_floors_of s → IsInRange s request →
-    first_after request.start_us (all_kept_places k) ≡ 0 → IsTableFor s request (Err BeforeRecording)
-none_before s request k are same range none = record {
+pub none_before : (s : State) (request : Request) → AreSources (sources s) → IsInRange s request →
+    first_after request.start_us (kept_places s) ≡ 0 → IsTableFor s request (Err BeforeRecording)
+none_before s request are range none = record {
   in_range = range;
-  programme = none-by (kept_places s) (kept-are_places s are) request.start_us
-      (subst (λ (x : PlacesAndFloors). first_after request.start_us (all_kept_places x) ≡ 0) same none);
+  programme = none-by (kept_places s) (kept-are_places s are) request.start_us none;
 }
 
 -- how many kept places a programme has, from place number n on
-pub record IsCounted (k : PlacesAndFloors) (request : Request) (n count : ℕ) : Type 0 where
-  pub last : IsLastBy k request.start_us n
-  pub count_is : count ≡ first_from request.stop_us (kept_places_from k n) + 1
-  pub there : count ≤ length (kept_places_from k n)
+pub record IsCounted (s : State) (request : Request) (n count : ℕ) : Type 0 where
+  pub last : IsLastBy (places_and_floors_of s) request.start_us n
+  pub count_is : count ≡ first_from request.stop_us (kept_places_from (places_and_floors_of s) n) + 1
+  pub there : count ≤ length (kept_places_from (places_and_floors_of s) n)
 
 -- the number of places from the last one at or before the start to the first one at or after the stop
 count_is : (s : State) (request : Request) (n count : ℕ) → AreApart s request n → count ≡ first_from request.stop_us (kept_places_from (places_and_floors_of s) n) + 1 →
     first_from request.stop_us (kept_places s) + 1 - (first_after request.start_us (kept_places s) - 1) ≡ count
 count_is s request n count apart is = omega (arith, apart.to, apart.some)
 
-pub too_long : (s : State) (request : Request) (k : PlacesAndFloors) (n count : ℕ) → AreSources (sources s) → k ≡ places_and_floors_of s → IsInRange s request →
-    IsCounted k request n count → place_limit < count → IsTableFor s request (Err ProgrammeTooLong)
-too_long s request k n count are is_kept_in range found long =
-    let counted : IsCounted (places_and_floors_of s) request n count = subst (λ (x : PlacesAndFloors). IsCounted x request n count) is_kept_in found in
+pub too_long : (s : State) (request : Request) (n count : ℕ) → AreSources (sources s) → IsInRange s request →
+    IsCounted s request n count → place_limit < count → IsTableFor s request (Err ProgrammeTooLong)
+too_long s request n count are range counted long =
     let apart = are_apart s request n range counted.last in
     let within : first_from request.stop_us (kept_places s) < length (kept_places s) = omega (arith, apart.to, apart.long, counted.count_is, counted.there) in
     let same = count_is s request n count apart counted.count_is in
@@ -151,9 +147,8 @@ start_before s request range some within =
     omega (arith, start-before_stop request.start_us request.stop_us (kept_places s) range.order within)
 
 pub programme_there : (s : State) (request : Request) (p : Programme) → IsState s → AreSources (sources s) → IsInRange s request →
-    p.places ≡ places_and_floors_of s → IsCounted p.places request p.from p.count → p.count ≤ place_limit → ArePlacesFor s request p
-programme_there s request p valid are range same_places found few =
-    let counted : IsCounted (places_and_floors_of s) request p.from p.count = subst (λ (x : PlacesAndFloors). IsCounted x request p.from p.count) same_places found in
+    p.places ≡ places_and_floors_of s → IsCounted s request p.from p.count → p.count ≤ place_limit → ArePlacesFor s request p
+programme_there s request p valid are range same_places counted few =
     let ks : List Place = kept_places s in
     let a : ℕ = first_after request.start_us ks in
     let to : ℕ = first_from request.stop_us ks in
@@ -170,7 +165,7 @@ programme_there s request p valid are range same_places found few =
     let places_are : ArePlaces ks = kept-are_places s are in
     let span : IsRange ks (a - 1) to = record { order = start_before s request range apart.some within; within = within } in
     record {
-      within = found.last.within;
+      within = subst (λ (k : PlacesAndFloors). p.from ≤ length k.items) (sym same_places) counted.last.within;
       defined = record {
         in_range = range;
         programme = programme-fits (goal_for s request) ks places_are request.start_us request.stop_us range.order apart.some within

@@ -1,7 +1,7 @@
--- Iterating over the kept places, and the last of them by a time.
-use Rattle.std.proofs.Common.{◌≡◌, ℕ, zero, suc, ◌+◌, ◌-◌, ◌<◌, ◌≤◌, List, [], ◌∷◌, length, Some, None, true, false, arith, refl, sym, ap, subst, inl, inr, ◌∙◌, ◌++◌, take, length-append, append_assoc}
+-- The kept places: their copies, the last one by a time, and the first one from a time.
+use Rattle.std.proofs.Common.{◌≡◌, ℕ, zero, suc, ◌+◌, ◌-◌, ◌<◌, ◌≤◌, List, [], ◌∷◌, length, Some, None, true, false, arith, refl, sym, ap, subst, inl, inr, ◌∙◌, ◌++◌, take, drop, length-append, length-drop, append_assoc}
 use Rattle.std.specs.Prelude.{nat_lt, nat_le, slice_get}
-use Rattle.std.proofs.lemmas.Bool.{cases_Bool, cond-true, cond-false, cond_both, lt-ltb, le-ltb}
+use Rattle.std.proofs.lemmas.Bool.{cases_Bool, cases_lt, cond-true, cond-false, lt-ltb, le-ltb, lt-leb, le-leb}
 use Rattle.hls_check_tables.specs.declared.spot.Spot.{Spot}
 use Rattle.hls_places_laws.specs.declared.place.Place.{Place}
 use Rattle.hls_places_laws.specs.Order.{time_of, spots_of}
@@ -9,8 +9,10 @@ use Rattle.hls_places_laws.specs.Firsts.{first_after, first_from}
 use Rattle.hls_places_laws.specs.Programmes.{is_kept, filter_kept}
 use Rattle.hls_core_laws.specs.State.{State}
 use Rattle.hls_core_laws.specs.Places.{places, floors}
+use Rattle.hls_core_laws.specs.IsState.{IsState}
 use Rattle.hls_core.specs.KeptPlaces.{IsLastKeptBy, NoKeptBy}
-use Rattle.hls_catchup.specs.KeptPlaces.{PlacesAndFloors, places_and_floors_of, all_kept_places, IsLastBy}
+use Rattle.hls_catchup.specs.KeptPlaces.{PlacesAndFloors, places_and_floors_of, all_kept_places, kept_places_from, IsLastBy}
+use Rattle.hls_catchup.proofs.Cited.{at_drop, kept-goes-on}
 
 pub kept-more : (floors : List ℕ) (p : Place) (ps : List Place) → is_kept floors p ≡ true → filter_kept floors (p ∷ ps) ≡ p ∷ filter_kept floors ps
 kept-more floors p ps is = cond-true (is_kept floors p) (p ∷ filter_kept floors ps) (filter_kept floors ps) is
@@ -23,6 +25,9 @@ after-here time p ps late = rw late refl
 
 pub after-later : (time : ℕ) (p : Place) (ps : List Place) → nat_lt time (time_of p) ≡ false → first_after time (p ∷ ps) ≡ 1 + first_after time ps
 after-later time p ps early = rw early refl
+
+from-here : (time : ℕ) (p : Place) (ps : List Place) → nat_le time (time_of p) ≡ true → first_from time (p ∷ ps) ≡ 0
+from-here time p ps late = rw late refl
 
 pub from-later : (time : ℕ) (p : Place) (ps : List Place) → nat_le time (time_of p) ≡ false → first_from time (p ∷ ps) ≡ 1 + first_from time ps
 from-later time p ps early = rw early refl
@@ -110,12 +115,54 @@ last-is s time n found = last-at (floors s) time n (places s) found.place found.
 pub none-is : (s : State) (time : ℕ) → NoKeptBy s time → first_after time (all_kept_places (places_and_floors_of s)) ≡ 0
 none-is s time none = none-first (floors s) time (places s) none
 
--- at most as many places are kept as there are
-pub kept-few : (floors : List ℕ) (ps : List Place) → length (filter_kept floors ps) ≤ length ps
-kept-few floors [] = omega arith
-kept-few floors (p ∷ ps) =
-    let rest : length (filter_kept floors ps) ≤ length ps = kept-few floors ps in
-    cond_both (is_kept floors p) (p ∷ filter_kept floors ps) (filter_kept floors ps) (λ ks. length ks ≤ length (p ∷ ps)) (λ is. omega arith) (λ isnt. omega arith)
+-- among places that are all kept, the first at or after a stop is the one after the last before it
+first-is : (floors : List ℕ) (stop m : ℕ) (ps : List Place) → ((k : ℕ) (p : Place) → slice_get ps k ≡ Some p → is_kept floors p ≡ true) →
+    ((k : ℕ) (p : Place) → k < m → slice_get ps k ≡ Some p → time_of p < stop) → ((k : ℕ) (p : Place) → m ≤ k → slice_get ps k ≡ Some p → stop ≤ time_of p) →
+    m ≤ length ps → (first_from stop (filter_kept floors ps) ≡ m) × (length (filter_kept floors ps) ≡ length ps)
+first-is floors stop zero [] kept early late few = (refl, refl)
+first-is floors stop (suc m) [] kept early late few = absurd (omega (arith, few))
+first-is floors stop zero (p ∷ ps) kept early late few =
+    let more : filter_kept floors (p ∷ ps) ≡ p ∷ filter_kept floors ps = kept-more floors p ps (kept 0 p refl) in
+    let rest = first-is floors stop 0 ps (λ k q at. kept (suc k) q at) (λ k q less at. absurd (omega (arith, less))) (λ k q past at. late (suc k) q (omega arith) at) (omega arith) in (
+      ap (first_from stop) more ∙ from-here stop p (filter_kept floors ps) (le-leb stop (time_of p) (late 0 p (omega arith) refl)),
+      omega (arith, ap length more, rest.1),
+    )
+first-is floors stop (suc m) (p ∷ ps) kept early late few =
+    let more : filter_kept floors (p ∷ ps) ≡ p ∷ filter_kept floors ps = kept-more floors p ps (kept 0 p refl) in
+    let rest = first-is floors stop m ps (λ k q at. kept (suc k) q at) (λ k q less at. early (suc k) q (omega (arith, less)) at)
+    (λ k q past at. late (suc k) q (omega (arith, past)) at) (omega (arith, few)) in (
+      omega (arith, ap (first_from stop) more, from-later stop p (filter_kept floors ps) (lt-leb stop (time_of p) (early 0 p (omega arith) refl)), rest.0),
+      omega (arith, ap length more, rest.1),
+    )
+
+-- what two searches tell about the places from number `from`, the last one by the start, if number `before` is the last one before the stop
+pub record AreSearched (s : State) (stop from before : ℕ) : Type 0 where
+  pub order : from ≤ before
+  pub few : before + 1 ≤ length (places s)
+  pub first : first_from stop (kept_places_from (places_and_floors_of s) from) ≡ before + 1 - from
+  pub long : length (kept_places_from (places_and_floors_of s) from) ≡ length (places s) - from
+
+pub are-searched : (s : State) → IsState s → (start stop from before : ℕ) → start < stop → IsLastKeptBy s start from → IsLastKeptBy s (stop - 1) before →
+    AreSearched s stop from before
+are-searched s state start stop from before order begins ends =
+    let by : time_of begins.place ≤ start = begins.by.early from begins.place (omega arith) begins.there in
+    let up : from ≤ before = elim (cases_lt before from) [
+      | inl less ↦ absurd (omega (arith, order, by, ends.by.late from begins.place (omega (arith, less)) begins.there))
+      | inr more ↦ more
+    ] in
+    let few : before + 1 ≤ length (places s) = ends.by.few in
+    let rest : length (drop from (places s)) ≡ length (places s) - from = length-drop from (places s) in
+    let found = first-is (floors s) stop (before + 1 - from) (drop from (places s))
+    (λ k p at. kept-goes-on s state from (from + k) begins.place p (omega arith) begins.there (sym (at_drop (places s) from k) ∙ at) begins.kept)
+    (λ k p less at. omega (arith, order, ends.by.early (from + k) p (omega (arith, less, up)) (sym (at_drop (places s) from k) ∙ at)))
+    (λ k p past at. omega (arith, order, ends.by.late (from + k) p (omega (arith, past, up)) (sym (at_drop (places s) from k) ∙ at)))
+    (omega (arith, few, rest, up)) in
+    record {
+      order = up;
+      few = few;
+      first = found.0;
+      long = found.1 ∙ rest;
+    }
 
 -- one more kept place is copied
 pub one_copy_more : (spots : List (List Spot)) (copy : List Spot) (count : ℕ) (floors : List ℕ) (p : Place) (ps : List Place) (whole : List (List Spot)) →

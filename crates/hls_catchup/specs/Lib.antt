@@ -6,6 +6,7 @@ pub mod FaultName
 pub mod AcceptedLaw
 pub mod Answers
 pub mod Requests
+pub mod AnswerLaws
 pub mod Replies
 pub mod Resources
 pub mod Jobs

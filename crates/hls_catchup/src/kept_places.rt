@@ -6,14 +6,14 @@ ghost use Rattle.hls_core_laws.specs.Places.{sources};
 ghost use Rattle.hls_places_laws.specs.Sources.{AreSources};
 ghost use Rattle.hls_places_laws.specs.Order.{spots_of};
 ghost use Rattle.hls_places_laws.specs.Programmes.{is_kept};
-ghost use Rattle.hls_catchup.specs.KeptPlaces.{places_and_floors_of, kept_places_from, IsCountTo};
+ghost use Rattle.hls_catchup.specs.KeptPlaces.{places_and_floors_of, kept_places_from};
 
 use crate::place_iterator::{iter_places_from, next_place};
 use hls_blocks::Shared;
 use hls_check_tables::RENDITION_LIMIT;
 use hls_core::floors::{floors_of, rendition_count};
 use hls_core::snapshot::Snapshot;
-use hls_places::{Place, Spots, is_kept, time_of};
+use hls_places::{Place, Spots, is_kept};
 use std::alloc::{AllocError, Global};
 use std::marker::Model;
 
@@ -55,24 +55,6 @@ impl<'a> KeptPlaces<'a> {
         ensures { result ≡ is_kept self.now.floors place.now }
     {
         is_kept(place, &self.floors[..self.renditions])
-    }
-
-    /// Counts the kept places from number `from` to the first at or after a time in microseconds, inclusive; `None` if none is that late.
-    pub fn count_up_to(&self, from: u64, time: u64) -> Option<usize>
-        requires { from ≤ length self.now.items }
-        ensures { IsCountTo self.now from time result }
-    {
-        let mut count = 0;
-        let mut walk = iter_places_from(self.places, from);
-        while let Some(place) = next_place(&mut walk) {
-            if self.is_kept(place) {
-                count += 1;
-                if time <= time_of(place) {
-                    return Some(count);
-                }
-            }
-        }
-        None
     }
 
     /// Copies the spots of the first `count` kept places from number `from` on.

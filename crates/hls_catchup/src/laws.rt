@@ -1,6 +1,7 @@
-//! A theorem about the definitions: the function's contract is the law.
+//! Theorems about the definitions: each function's contract is the law.
 
 ghost use Rattle.hls_catchup.specs.AcceptedLaw.{GoodCertificatesAreAccepted};
+ghost use Rattle.hls_catchup.specs.AnswerLaws.{AnswersStay};
 
 use hls_check::check_result_is_unique;
 use hls_check::text_laws::{text_has_no_wrong_line, text_is_unique};
@@ -13,3 +14,8 @@ pub fn good_certificates_are_accepted()
     text_has_no_wrong_line();
     check_result_is_unique();
 }
+
+/// A right answer of a state is one of each state that follows, if the programme is the same there.
+pub fn answers_stay()
+    ensures { AnswersStay }
+{}

@@ -35,7 +35,7 @@ pub use hls_check_tables::CostRule;
 pub use jobs::answer::JobAnswer;
 pub use jobs::finished::Finished;
 pub use jobs::job::{Job, JobRow, JobState, Work};
-pub use laws::good_certificates_are_accepted;
+pub use laws::{answers_stay, good_certificates_are_accepted};
 pub use place_iterator::next_place;
 pub use place_table::table_of;
 pub use programme::{Programme, find_programme};

@@ -1,8 +1,10 @@
 //! The programme of a request among the kept places.
 
-ghost use Rattle.std.specs.Prelude.{◌≡◌, if◌then◌else◌};
+ghost use Rattle.std.specs.Prelude.{◌≡◌, ◌<◌, if◌then◌else◌};
+ghost use Rattle.hls_core.specs.KeptPlaces.{IsLastKeptBy};
 ghost use Rattle.hls_catchup.specs.declared.fault.CatchFault.TheVariants.{NotYet, AfterRecording};
 ghost use Rattle.hls_catchup.specs.Requests.{all_finished, IsInRange};
+ghost use Rattle.hls_catchup.specs.KeptPlaces.{IsCountTo, places_and_floors_of};
 ghost use Rattle.hls_catchup.specs.Programmes.{IsProgrammeOrFault};
 
 use crate::fault::CatchFault;
@@ -50,7 +52,7 @@ fn find_places(snapshot: &Snapshot, request: Request) -> Result<Programme<'_>, C
     let Some(from) = last_kept_place_by(snapshot, request.start_us) else {
         return Err(CatchFault::BeforeRecording);
     };
-    let Some(count) = places.count_up_to(from, request.stop_us) else {
+    let Some(count) = count_places(snapshot, request, from) else {
         return Err(find_late_fault(snapshot));
     };
     if PLACE_LIMIT < count {
@@ -61,6 +63,23 @@ fn find_places(snapshot: &Snapshot, request: Request) -> Result<Programme<'_>, C
         from,
         count,
     })
+}
+
+/// Counts the places from number `from`, the last one at or before the start, to the first at or after the stop, inclusive; `None` if none
+/// is that late. Doesn't allocate, and looks at few places.
+fn count_places(snapshot: &Snapshot, request: Request, from: u64) -> Option<usize>
+    requires order { request.start_us < request.stop_us }
+    requires from { IsLastKeptBy snapshot.now request.start_us from }
+    ensures { IsCountTo (places_and_floors_of snapshot.now) from request.stop_us result }
+{
+    // times are whole microseconds: the place after the last one before the stop is the first at or after it
+    let Some(before) = last_kept_place_by(snapshot, request.stop_us - 1) else {
+        unreachable!()
+    };
+    if snapshot.places().next() <= before + 1 {
+        return None;
+    }
+    Some((before - from + 2) as usize)
 }
 
 /// Returns why there is no place at or after a stop.

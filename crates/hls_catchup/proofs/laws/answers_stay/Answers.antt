@@ -1,0 +1,5 @@
+use Rattle.hls_catchup.proofs.AnswersStay as laws
+use Rattle.hls_catchup.proofs.laws.answers_stay.Goals as goal
+
+pub returns : goal.returns
+returns c = laws.answers_stay
