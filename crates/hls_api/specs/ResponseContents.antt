@@ -65,6 +65,7 @@ IsMediaRangeFor asked total (Some piece) = IsMediaRange asked total piece
 
 abbrev pub slices_of : ResponseBody → List (List ℕ)
 slices_of (bodies.Text text) = text.items ∷ []
+slices_of (bodies.Shared text) = text ∷ []
 slices_of (bodies.Media resource) = media_slices resource
 
 -- the bytes, or the whole text

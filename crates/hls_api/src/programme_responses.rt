@@ -12,7 +12,7 @@ use crate::playlist_responses::optional_playlist_response;
 use crate::query::{make_request, resolve_query};
 use crate::response::Response;
 use crate::route::ProgrammeFile;
-use crate::text_responses::{fault_response, refusal_response, text_response};
+use crate::text_responses::{fault_response, refusal_response, shared_text_response};
 use hls_catchup::{CatchFault, Request, find_programme};
 use hls_core::snapshot::Snapshot;
 use hls_http::fault::HttpFault;
@@ -59,8 +59,8 @@ fn programme_file_response(
             optional_playlist_response(alloc, text)
         }
         ProgrammeFile::Certificate => {
-            let text = Vec::from_slice(alloc, texts.certificate())?;
-            Ok(text_response(Status::Done, text))
+            let text = texts.certificate().clone()?;
+            Ok(shared_text_response(Status::Done, text))
         }
     }
 }

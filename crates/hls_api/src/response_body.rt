@@ -1,6 +1,7 @@
 //! Where the bytes of a response's body are.
 
 use crate::media_responses::MediaResource;
+use bytes::Bytes;
 use hls_io::Resource;
 
 /// Where the bytes of a response's body are.
@@ -8,6 +9,8 @@ use hls_io::Resource;
 pub enum ResponseBody {
     /// A text.
     Text(Vec<u8>),
+    /// A text that others have too.
+    Shared(Bytes),
     /// Media, whose bytes stay in the recording.
     Media(MediaResource),
 }
@@ -20,6 +23,7 @@ impl Resource for ResponseBody {
     fn slice(&self, number: u64) -> &[u8] {
         match self {
             ResponseBody::Text(text) => { if number == 0 { text.as_slice() } else { b"" } }
+            ResponseBody::Shared(text) => { if number == 0 { text.as_slice() } else { b"" } }
             ResponseBody::Media(resource) => resource.slice(number),
         }
     }

@@ -4,6 +4,7 @@ ghost use Rattle.std.specs.Prelude.{◌≡◌, IfOk};
 ghost use Rattle.hls_api.specs.ResponseContents.{content_of};
 
 use crate::response_body::ResponseBody;
+use bytes::Bytes;
 use hls_io::ResourceRange;
 use hls_jobs::CertificateWriter;
 use hls_playlists::LivePlaylistWriter;
@@ -28,12 +29,27 @@ fn text_range(text: Vec<u8>) -> ResourceRange<ResponseBody>
     ResourceRange::new(ResponseBody::Text(text), 0, 0, len)
 }
 
+/// Makes a body from a text that is shared.
+fn shared_range(text: Bytes) -> ResourceRange<ResponseBody>
+    ensures { result ≡ text }
+{
+    let len = text.len() as u64;
+    ResourceRange::new(ResponseBody::Shared(text), 0, 0, len)
+}
+
 impl ResponseContent {
     /// Makes a body from a text.
     pub fn from_text(text: Vec<u8>) -> ResponseContent
         ensures { content_of result ≡ text.items }
     {
         ResponseContent::Whole(text_range(text))
+    }
+
+    /// Makes a body from a text that is shared.
+    pub fn from_shared(text: Bytes) -> ResponseContent
+        ensures { content_of result ≡ text }
+    {
+        ResponseContent::Whole(shared_range(text))
     }
 
     /// Makes a body from a live playlist's text, and writes one part of it, which completes a short one.

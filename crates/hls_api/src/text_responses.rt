@@ -10,13 +10,15 @@ ghost use Rattle.hls_api.specs.Responses as spec;
 use crate::fault::{refusal_status, stream_fault_status};
 use crate::ingest::IngestCounts;
 use crate::response::Response;
+use crate::response_content::ResponseContent;
 use crate::route::Route;
+use bytes::Bytes;
 use hls_core::StreamFault;
 use hls_core_laws::done::Done;
 use hls_core_laws::refusal::Refusal;
 use hls_http::fault::HttpFault;
 use hls_http::refusal_body;
-use hls_http::response_parts::{ExtraField, Status};
+use hls_http::response_parts::{ContentType, ExtraField, Status};
 use std::alloc::{AllocError, Global};
 
 /// A response whose body is a text.
@@ -24,6 +26,18 @@ pub(crate) fn text_response(status: Status, body: Vec<u8>) -> Response
     ensures { result ≡ text_answer status body.items }
 {
     Response::from_text(status, ExtraField::Nothing, body)
+}
+
+/// A response whose body is a text that is shared.
+pub(crate) fn shared_text_response(status: Status, body: Bytes) -> Response
+    ensures { result ≡ text_answer status body }
+{
+    Response::from_content(
+        status,
+        ContentType::Text,
+        ExtraField::Nothing,
+        ResponseContent::from_shared(body),
+    )
 }
 
 /// A refusal by its name.

@@ -11,3 +11,4 @@ mod PlanCalls
 mod CertificateTexts
 pub mod PathTexts
 mod ProgrammesStay
+mod ListsStay

@@ -22,7 +22,7 @@ pub record AreTextsOf (t : Inside) (reply : ReplyData) : Type 0 where
   pub right : IsRightReply reply.state reply.request reply
   pub master : option_map (λ text. text.items) t.master ≡ master_file reply
   pub lists : AreLists reply (map (λ text. text.items) t.lists.items)
-  pub certificate : t.certificate.items ≡ certificate_file reply
+  pub certificate : t.certificate ≡ certificate_file reply
 
 abbrev pub AreTexts : Inside → Option ReplyData → Type 0
 AreTexts t None = ⊥

@@ -1,8 +1,18 @@
-//! A law of programmes: the function's contract is the law.
+//! Laws of programmes: each function's contract is the law.
 
-ghost use Rattle.hls_jobs.specs.ProgrammeLaws.{ProgrammesStay};
+ghost use Rattle.hls_jobs.specs.ProgrammeLaws.{ProgrammeAnswersStay, ProgrammesStay};
+
+use hls_catchup::answers_stay;
 
 /// A programme that a channel has stays the same as long as its beginning is kept.
 pub fn programmes_stay()
     ensures { ProgrammesStay }
 {}
+
+/// A right answer to a request for a programme stays right, with the same playlists and certificate, as long as the programme's
+/// beginning is kept.
+pub fn programme_answers_stay()
+    ensures { ProgrammeAnswersStay }
+{
+    answers_stay();
+}

@@ -27,7 +27,7 @@ pub use hls_catchup::{Finished, Job, JobAnswer, JobFault, Work};
 pub use job_line::{served_version, write_job_line};
 pub use job_run::{answer_request, run_job};
 pub use last_uses::{JobAge, LastUse};
-pub use laws::programmes_stay;
+pub use laws::{programme_answers_stay, programmes_stay};
 pub use plans::FoundPlan;
 pub use programme_files::programme_list_text;
 pub use programme_texts::{ProgrammeTexts, plan_now};

@@ -11,6 +11,7 @@ ghost use Rattle.hls_jobs.specs.Programmes as spec;
 use crate::certificate_writer::CertificateWriter;
 use crate::plans::{FoundPlan, PlanWork};
 use crate::programme_files::programme_list_text;
+use bytes::Bytes;
 use hls_catchup::{CutResult, Reply, Request, answer};
 use hls_core::snapshot::Snapshot;
 use hls_players_master::players_master;
@@ -26,7 +27,7 @@ pub struct ProgrammeTexts {
     request: Request,
     master: Option<Vec<u8>>,
     lists: Vec<Vec<u8>>,
-    certificate: Vec<u8>,
+    certificate: Bytes,
     /// The reply, only for proofs.
     reply: Log<Arc<Reply>, ()>,
 }
@@ -78,10 +79,11 @@ fn list_texts(alloc: Global, reply: &Reply) -> Result<Vec<Vec<u8>>, AllocError>
 }
 
 /// Returns the text of the certificate.
-fn certificate_text(alloc: Global, reply: &Arc<Reply>) -> Result<Vec<u8>, AllocError>
-    ensures { IfOk result (λ text. text.items ≡ certificate_file reply.now.value) }
+fn certificate_text(alloc: Global, reply: &Arc<Reply>) -> Result<Bytes, AllocError>
+    ensures { IfOk result (λ text. text ≡ certificate_file reply.now.value) }
 {
-    CertificateWriter::new(alloc, Arc::try_clone(reply)?)?.finish()
+    let text = CertificateWriter::new(alloc, Arc::try_clone(reply)?)?.finish()?;
+    Ok(Bytes::from_vec(text)?)
 }
 
 impl ProgrammeTexts {
@@ -131,11 +133,11 @@ impl ProgrammeTexts {
         }
     }
 
-    /// Returns the text of the certificate.
-    pub fn certificate(&self) -> &[u8]
+    /// Returns the text of the certificate, which may be shared: it can have some megabytes.
+    pub fn certificate(&self) -> &Bytes
         ensures { (reply : ReplyData) → self.now ≡ Some reply → result.now ≡ certificate_file reply }
     {
-        self.certificate.as_slice()
+        &self.certificate
     }
 
     /// Returns how many bytes the texts have.

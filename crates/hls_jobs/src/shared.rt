@@ -250,8 +250,15 @@ impl Jobs {
         ensures { IfOk result (HasAddedPlan request) }
     {
         let found = self.inner.lock(rt).plans.find_or_add(snapshot, request);
-        self.available.notify_one();
+        self.notify_planner(&found);
         found
+    }
+
+    /// Wakes a loop that waits for work, if what was found is a plan that isn't finished. Texts need no loop.
+    fn notify_planner(&self, found: &Result<FoundPlan, AllocError>) {
+        if matches!(found, Ok(FoundPlan::Unfinished)) {
+            self.available.notify_one();
+        }
     }
 
     /// Returns what is known of a request's programme. May wait.

@@ -13,6 +13,7 @@ use Rattle.std.proofs.Crossing.{crosses}
 use Rattle.std.specs.contracts.alloc.Global as alloc
 use Rattle.http_server.specs.contracts.log.Log as log
 use Rattle.http_server.proofs.log.Log.TheSendSync as log_sends
+use Rattle.bytes.proofs.shared.Bytes.TheSendSync as bytes_sends
 use Rattle.hls_jobs.specs.contracts.shared.Jobs as jobs
 use Rattle.hls_jobs.specs.contracts.shared.JobsInner as inner
 use Rattle.hls_jobs.specs.contracts.plans.PlanTable as plans
@@ -54,7 +55,7 @@ log_sync : (A B : RattleType) → IsSend (log.the_row A B) → IsSync (log.the_r
 log_sync A B s = record { shared = λ d b o κ q. whole-keyless _ _ s.owned q d b o }
 
 texts_sync : IsSync texts.the_row
-texts_sync = search (sendable, crosses, log_sync, log_sends.the_send) depth 30
+texts_sync = search (sendable, crosses, log_sync, log_sends.the_send, bytes_sends.the_sync) depth 30
 
 plans_send : IsSend (plans.the_field).row
 plans_send = search (sendable, crosses, plan_row.the_send, texts_sends.the_send, texts_sync) depth 30

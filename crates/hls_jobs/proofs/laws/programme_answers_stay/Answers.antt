@@ -1,0 +1,9 @@
+use Rattle.hls_jobs.proofs.ListsStay.{lists_stay}
+use Rattle.hls_jobs.proofs.ProgrammesStay.{programmes_stay}
+use Rattle.hls_jobs.proofs.laws.programme_answers_stay.Goals as goal
+
+pub returns : goal.returns
+returns c = λ a b request cut_result follows answer keeps. record {
+  right = c.answers_stay.ensures a b request cut_result follows answer (programmes_stay a b request answer.table follows answer.defined keeps);
+  lists = lists_stay a b follows request cut_result answer;
+}
