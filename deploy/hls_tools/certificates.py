@@ -1,5 +1,6 @@
 """Certificates of programmes (docs/CERTIFICATE.md): the program's checker, and the table of places with the allowed steps between them."""
 import datetime
+import itertools
 import os
 import re
 import subprocess
@@ -44,26 +45,16 @@ class Certificate:
 
     def __init__(self, text: str) -> None:
         lines = text.split("\n")
-        fields = dict(line.split(" ", 1) for line in lines if re.match("(rule|target|preferred|places|cut|plan) ", line))
-        self.target, self.preferred = int(fields["target"]), int(fields["preferred"])
-        self.charge = int(fields["rule"].split()[1]) if "rule" in fields else 0
-        self.plan = [int(word) for word in fields.get("plan", "").split()]
+        fields = dict(line.split(" ", 1) for line in lines if re.match("(target|places|plan) ", line))
+        self.target, self.plan = int(fields["target"]), [int(word) for word in fields.get("plan", "").split()]
         self.longest_us = self.target * 1_000_000 + 499_999
         begin = next(at for at, line in enumerate(lines) if line.startswith("places ")) + 1
         rows = [[int(word) for word in line.split()] for line in lines[begin:begin + int(fields["places"])]]
         self.places = [[Spot(*row[at:at + 5]) for at in range(0, len(row), 5)] for row in rows]
         if not self.places or self.plan and self.plan[-1] >= len(self.places):
             raise ValueError("it has no places, or its plan has others")
-
-    @property
-    def begins(self) -> int:
-        """The first place's time in rendition 0, in µs."""
-        return self.places[0][0].start
-
-    @property
-    def ends(self) -> int:
-        """The end of the media before the last place in rendition 0, in µs."""
-        return self.places[-1][0].prev_end
+        # the first place's time in rendition 0, and the end of the media before the last place, in µs
+        self.begins, self.ends = self.places[0][0].start, self.places[-1][0].prev_end
 
     def segments(self, rendition: int) -> list[tuple[int, int]]:
         """Returns the planned segments of a rendition, each by its number of units and its length in µs."""
@@ -83,14 +74,10 @@ class Certificate:
         """Returns the last place that allowed steps reach from `first`."""
         found, waiting = {first}, [first]
         for at in waiting:
-            for end in range(at + 1, len(self.places)):
-                if end in found:
-                    continue
-                if self.is_past(at, end):
-                    break
-                if self.is_step(at, end):
-                    found.add(end)
-                    waiting.append(end)
+            ends = itertools.takewhile(lambda end: not self.is_past(at, end), range(at + 1, len(self.places)))
+            reached = [end for end in ends if end not in found and self.is_step(at, end)]
+            found.update(reached)
+            waiting += reached
         return max(found)
 
     def pieces(self) -> list[tuple[int, int]]:

@@ -1,5 +1,5 @@
 """What doesn't fit in a channel's file, found before anything runs: each key's value, and what other channels of the machine have."""
-import difflib
+import contextlib
 import glob
 import ipaddress
 import os
@@ -9,7 +9,6 @@ import subprocess
 import tempfile
 import urllib.parse
 from collections.abc import Callable
-from typing import NamedTuple
 
 from . import edge
 from .certificates import PROGRAM
@@ -18,13 +17,6 @@ from .channels import FOLDER, NAME, Ladder, Wrong, name_of, option, read_values
 # What a channel's file may have: the origin's keys, those of its input, and those of the machine around it.
 KEYS = ("OPTIONS", "ADDRESS", "RENDITIONS", "SIZES", "RATE", "GROUP", "INPUT", "INPUT_OPTIONS", "ORIGINS", "VIDEO_OPTIONS", "EDGE", "STANDBY", "SENDERS")
 PRIVATE = "10.0.0.0/8 172.16.0.0/12 192.168.0.0/16"       # who may connect to an origin if SENDERS isn't given
-
-
-class Need(NamedTuple):
-    """What the program says that a channel needs, as systemd takes it."""
-
-    address_space: str
-    memory: str
 
 
 def places_of(values: dict[str, str]) -> list[str]:
@@ -41,11 +33,11 @@ def origins_at_edge(values: dict[str, str]) -> list[str]:
 def senders_of(values: dict[str, str]) -> list[str]:
     """Returns the networks that may connect to the origin, and so send to it, tested. The channel's other origin is one of them."""
     try:
-        found = [ipaddress.ip_network(one) for one in values.get("SENDERS", PRIVATE).split()]
+        found = [ipaddress.IPv4Network(one) for one in values.get("SENDERS", PRIVATE).split()]
     except ValueError as fault:
         raise Wrong(f"SENDERS: {fault}") from None
-    others = [ipaddress.ip_network(edge.address(one).rpartition(":")[0].strip("[]")) for one in values.get("STANDBY", "").split()]
-    return [str(one) for one in [*found, *(one for one in others if not any(one.version == there.version and one.subnet_of(there) for there in found))]]  # type: ignore[arg-type]
+    others = [ipaddress.IPv4Network(edge.address(one).rpartition(":")[0]) for one in values.get("STANDBY", "").split()]
+    return [str(one) for one in [*found, *(one for one in others if not any(one.subnet_of(there) for there in found))]]
 
 
 def listens_at(values: dict[str, str]) -> str | None:
@@ -73,26 +65,23 @@ def journal_of(values: dict[str, str], name: str) -> str | None:
 def said_by(command: str, arguments: list[str]) -> str:
     """Returns what a command of the program prints about arguments of serve; it names a wrong one. A server that runs has none."""
     try:
-        done = subprocess.run([PROGRAM, command, *arguments], stdin=subprocess.DEVNULL, capture_output=True, text=True, errors="replace", timeout=20 if command == "size" else 5)
-    except subprocess.TimeoutExpired as fault:
-        if command == "serve":
-            return ""
-        raise Wrong(f"{PROGRAM} can't be run: {fault}") from fault
+        done = subprocess.run([PROGRAM, command, *arguments], stdin=subprocess.DEVNULL, capture_output=True, text=True, errors="replace", timeout=5)
+    except subprocess.TimeoutExpired:
+        return ""
     except OSError as fault:
         raise Wrong(f"{PROGRAM} can't be run: {fault}") from fault
-    if done.returncode == 2 or done.returncode and command == "size":
-        line = done.stderr.strip().split("\n")[0] or f"{PROGRAM} {command} ends with status {done.returncode}"
-        raise Wrong("OPTIONS, ADDRESS or RENDITIONS: " + re.sub(r"^\w+: ", "", line))
+    if done.returncode == 2:
+        raise Wrong("OPTIONS, ADDRESS or RENDITIONS: " + re.sub(r"^\w+: ", "", done.stderr.strip().split("\n")[0]))
     return done.stdout
 
 
-def need_of(values: dict[str, str]) -> Need:
-    """Asks the program what a channel needs."""
+def need_of(values: dict[str, str]) -> tuple[str, str]:
+    """Asks the program for the address space and the memory that a channel needs, as systemd takes them."""
     text = said_by("size", [*values.get("OPTIONS", "").split(), values.get("ADDRESS", ""), *values.get("RENDITIONS", "").split()])
     found = dict(re.findall(r"^(LimitAS|MemoryMax)=(\d+[KMGT]?)$", text, re.M))
     if len(found) != 2:
         raise Wrong(f"{PROGRAM} size doesn't name the limits of a service")
-    return Need(found["LimitAS"], found["MemoryMax"])
+    return found["LimitAS"], found["MemoryMax"]
 
 
 def check_start(values: dict[str, str]) -> None:
@@ -118,10 +107,8 @@ def others(path: str, folder: str) -> dict[str, dict[str, str]]:
     found = {}
     for other in sorted(glob.glob(os.path.join(glob.escape(folder), "*.conf"))):
         if name_of(other) != name_of(path):
-            try:
+            with contextlib.suppress(Wrong):
                 found[name_of(other)] = read_values(other)
-            except Wrong:
-                continue
     return found
 
 
@@ -146,10 +133,7 @@ def faults_of(path: str, folder: str = FOLDER, channels: str | None = None, is_s
     except Wrong as fault:
         return [str(fault)]
     found = [] if re.fullmatch(NAME, name_of(path)) else [f"{name_of(path)!r} is no channel's name: a-z, 0-9, _ and -, at most 24"]
-    for key in values:
-        if key not in KEYS:
-            close = difflib.get_close_matches(key.upper(), KEYS, 1)
-            found.append(f"{key} is no key of a channel" + (f": {close[0]}?" if close else f"; the keys are {' '.join(KEYS)}"))
+    found += [f"{key} is no key of a channel; the keys are {' '.join(KEYS)}" for key in values if key not in KEYS]
     found += [f"{key} is missing" for key in ("ADDRESS", "RENDITIONS") if not values.get(key)]
     checks: list[Callable[[dict[str, str]], object]] = [] if found else [need_of, check_start, places_of, origins_at_edge, senders_of, lambda values: journal_of(values, name_of(path))]
     if is_served_here and checks:
@@ -165,8 +149,8 @@ def faults_of(path: str, folder: str = FOLDER, channels: str | None = None, is_s
         found += [f"{one} is {name}'s" for one in collisions(values, other)]
     if channels and os.path.exists(channels) and not found:
         try:
-            for name, channel in edge.read_channels(channels).items():
-                found += [f"EDGE: {one} is {name}'s in {channels}" for one in places_of(values) if one in channel["places"] and name != name_of(path)]
+            for name, (places, _) in edge.read_channels(channels).items():
+                found += [f"EDGE: {one} is {name}'s in {channels}" for one in places_of(values) if one in places and name != name_of(path)]
         except Wrong as fault:
             found.append(str(fault))
     return found
@@ -184,12 +168,10 @@ def warnings_of(path: str, folder: str = FOLDER, memory: int | None = None) -> l
     if listens_at(values) and url.startswith("srt") and "passphrase=" not in url and not re.match(r"srt://(127\.|localhost)", url):
         found.append("INPUT: whoever reaches this port may send: add &passphrase=.. (10 to 79 characters)")
     memory = os.sysconf("SC_PHYS_PAGES") * os.sysconf("SC_PAGE_SIZE") if memory is None else memory
-    total = in_bytes(need_of(values).memory)
+    total = in_bytes(need_of(values)[1])
     for other in others(path, folder).values():
-        try:
-            total += in_bytes(need_of(other).memory)
-        except Wrong:
-            continue
+        with contextlib.suppress(Wrong):
+            total += in_bytes(need_of(other)[1])
     if total > memory:
         found.append(f"all channels together may need {total >> 20} MiB, and the machine has {memory >> 20}: shorten --keep, or spread them over machines")
     return found

@@ -11,8 +11,10 @@ from .failures import Failure
 FOLDER = "/etc/hls_origin"
 SOUND_RATE = 48000
 AAC_FRAME = 1024            # samples: what an AAC frame holds, and what the encoder puts in front of its input
-ADDRESS = r"(?:0|[1-9][0-9]{0,2})(?:\.(?:0|[1-9][0-9]{0,2})){3}:[1-9][0-9]{0,4}"
+BYTE = "(?:25[0-5]|2[0-4][0-9]|1[0-9]{2}|[1-9]?[0-9])"
+ADDRESS = rf"{BYTE}(?:\.{BYTE}){{3}}:(?:[1-9][0-9]{{0,3}}|[1-5][0-9]{{4}}|6[0-4][0-9]{{3}}|65[0-4][0-9]{{2}}|655[0-2][0-9]|6553[0-5])"
 NAME = "[a-z0-9][a-z0-9_-]{0,23}"
+HOST = r"[A-Za-z0-9_]+(?:(?:\.|-+)[A-Za-z0-9_]+)*"
 
 
 class Wrong(Failure):
@@ -91,22 +93,23 @@ def read_rendition(spec: str) -> Rendition:
     return Rendition(found[1], found[2], int(found[3]), int(found[4]))
 
 
-def check_url(place: int, text: str) -> None:
-    """Tests where units can be sent; its text may have a password in it, so it isn't repeated."""
+def split_url(text: str) -> urllib.parse.SplitResult | None:
+    """Reads the URL of an origin, or of a channel at an edge; None if it is none."""
     try:
         url = urllib.parse.urlsplit(text)
-        good = text.isascii() and url.scheme in ("http", "https") and url.hostname and url.port != 0
+        good = text.isascii() and url.scheme in ("http", "https") and re.fullmatch(HOST + "|[0-9a-f:.]+", url.hostname or "") and url.port != 0
     except ValueError:
-        good = False
-    if not good:
-        raise Wrong(f"ORIGINS: address {place} isn't http://HOST:PORT, followed by a path or nothing")
+        return None
+    return url if good and not url.query and not url.fragment else None
 
 
 def origins_of(values: dict[str, str]) -> list[str]:
     """Returns the URLs of the origins that get a channel's units."""
     found = values.get("ORIGINS", "").split() or ["http://" + reachable(values["ADDRESS"])]
     for place, origin in enumerate(found, 1):
-        check_url(place, origin)
+        # its text may have a password in it, so it isn't repeated
+        if split_url(origin) is None:
+            raise Wrong(f"ORIGINS: address {place} isn't http://HOST:PORT, followed by a path or nothing")
     return found
 
 

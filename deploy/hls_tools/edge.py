@@ -1,13 +1,12 @@
 """The edge's files for nginx: the file of channels, and the maps and upstreams that are written from it (docs/EDGE.md)."""
 import fcntl
-import ipaddress
 import os
 import re
-import subprocess
 from collections.abc import Iterable, Mapping, Sequence
-from typing import IO, TypedDict
+from typing import IO
 
-from .channels import NAME, Wrong
+from .channels import ADDRESS, NAME, Wrong
+from .failures import Failure, run
 
 FOLDER = "/etc/nginx/hls_origin"
 LOCK = "/run/hls_edge.lock"
@@ -15,29 +14,16 @@ HOST = r"[a-z0-9]([a-z0-9-]*[a-z0-9])?(\.[a-z0-9]([a-z0-9-]*[a-z0-9])?)*"
 # First words of the edge's own paths: a channel at one of these would hide them.
 TAKEN = {"/hls", "/origin"}
 DOORS = ("operators", "encoders")
+Channel = tuple[list[str], list[str]]       # a channel's places at the edge, and its origins' addresses
 # A user with limits of his own. (A longer name doesn't fit into a bucket of nginx's hash, so it shares the limits of strangers.)
 USER = r"[A-Za-z0-9_.@-]{1,20}"
 
 
-class Channel(TypedDict):
-    """A channel's places at the edge, and its origins' addresses."""
-
-    places: list[str]
-    origins: list[str]
-
-
 def address(text: str) -> str:
-    """An origin's address as nginx wants it. A name would have to be resolved when nginx starts."""
-    found = re.fullmatch(r"(\[[0-9a-fA-F:.]+\]|[0-9.]+):([1-9][0-9]{0,4})", text)
-    try:
-        if found is None or int(found[2]) > 65535:
-            raise ValueError
-        # of the many spellings of an IPv6 address the one that nginx logs; ::ffff:a.b.c.d is the same host as a.b.c.d
-        host = ipaddress.IPv6Address(found[1][1:-1]) if found[1][0] == "[" else ipaddress.IPv4Address(found[1])
-        host = getattr(host, "ipv4_mapped", None) or host
-    except ValueError:
-        raise Wrong(f"{text!r} is no IP:PORT") from None
-    return f"[{host}]:{found[2]}" if host.version == 6 else f"{host}:{found[2]}"
+    """An origin's address, tested. A name would have to be resolved when nginx starts."""
+    if not re.fullmatch(ADDRESS, text):
+        raise Wrong(f"{text!r} is no IP:PORT")
+    return text
 
 
 def where(text: str) -> str:
@@ -73,7 +59,7 @@ def read_channels(path: str) -> dict[str, Channel]:
                     seen[one] = name
             except Wrong as fault:
                 raise Wrong(f"{path}, line {number}: {fault}") from None
-            channels[name] = {"places": places, "origins": origins}
+            channels[name] = places, origins
     return channels
 
 
@@ -104,7 +90,7 @@ def map_of(key: str, value: str, default: str, lines: Iterable[str]) -> str:
 
 def places_of(channels: Mapping[str, Channel]) -> list[str]:
     """The maps from a prefix and a host to a channel. Hosts may be longer than a hash's buckets, so they are looked up by patterns."""
-    places = [(place, name) for name, channel in channels.items() for place in channel["places"]]
+    places = [(place, name) for name, (found, _) in channels.items() for place in found]
     others = next((name for place, name in places if place == "/"), '""')
     hosts = [(f'"~^{re.escape(place)}$"', name) for place, name in places if place[0] != "/"]
     return [map_of("$host", "$hls_channel_of_host", others, [f"{place} {name}" for place, name in hosts]), map_of("$host", "$hls_at_host", '""', [f"{place} 1" for place, _ in hosts]),
@@ -121,14 +107,14 @@ def upstreams(name: str, origins: Sequence[str]) -> str:
 
 def generated(channels: Mapping[str, Channel], users: Mapping[str, list[str]]) -> str:
     """The text of generated.conf."""
-    stand_ins = [one for channel in channels.values() for one in channel["origins"][1:]]
+    stand_ins = [one for _, origins in channels.values() for one in origins[1:]]
     return "\n\n".join([
         "# Written by hls_channel from `channels`, and written again by it: nothing is to be changed here.",
         *places_of(channels),
         map_of('"$hls_channel $remote_user"', "$hls_known_user", '""', [f'"{name} {user}" {user}' for name in channels for user in users[name]]),
-        map_of('"$hls_channel $hls_number"', "$hls_process", '""', [f'"{name} {n}" {name}.{n}' for name, channel in channels.items() for n in range(1, len(channel["origins"]) + 1)]),
+        map_of('"$hls_channel $hls_number"', "$hls_process", '""', [f'"{name} {n}" {name}.{n}' for name, (_, origins) in channels.items() for n in range(1, len(origins) + 1)]),
         map_of("$upstream_addr", "$in_stand_in", '""', [f'"~(^|[ ,]){re.escape(one)}$" 1' for one in stand_ins]),
-        *(upstreams(name, channel["origins"]) for name, channel in channels.items()),
+        *(upstreams(name, origins) for name, (_, origins) in channels.items()),
     ]) + "\n"
 
 
@@ -139,17 +125,17 @@ def locked() -> IO[str]:
     return lock
 
 
-def apply(folder: str, nginx: Sequence[str], reload: bool = True) -> str | None:
-    """Writes, tests and reloads, with the folder locked; what went wrong, or None."""
-    channels, path = read_channels(os.path.join(folder, "channels")), os.path.join(folder, "generated.conf")
+def apply(reload: bool = True) -> None:
+    """Writes, tests and reloads, with the folder locked."""
+    channels, path = read_channels(os.path.join(FOLDER, "channels")), os.path.join(FOLDER, "generated.conf")
     before = open(path, encoding="utf-8").read() if os.path.isfile(path) else None
-    text = generated(channels, {name: users_of(folder, name) for name in channels})
-    write_whole(path, text, 0o600)
-    tried = subprocess.run([*nginx, "-t"], capture_output=True, text=True)
-    if tried.returncode:
+    write_whole(path, generated(channels, {name: users_of(FOLDER, name) for name in channels}), 0o600)
+    try:
+        run("nginx", "-t")
+    except Failure as fault:
         os.rename(path, path + ".refused")
         if before is not None:
             write_whole(path, before, 0o600)
-        return f"{tried.stderr.strip()}\nnginx refused it, and keeps running as before; what it refused is {path}.refused"
-    done = subprocess.run([*nginx, "-s", "reload"], capture_output=True, text=True) if reload else None
-    return f"{done.stderr.strip()}\n{path} is right, but nginx took no reload: is it running?" if done and done.returncode else None
+        raise Failure(f"{fault}\nnginx refused it, and keeps running as before; what it refused is {path}.refused") from None
+    if reload:
+        run("nginx", "-s", "reload")

@@ -1,5 +1,6 @@
-"""What ends a tool: a line for standard error and its exit status, or a signal."""
+"""What ends a tool: a line for standard error and its exit status, a command that failed, or a signal."""
 import signal
+import subprocess
 import sys
 from collections.abc import Callable
 from types import FrameType
@@ -13,6 +14,17 @@ class Failure(Exception):
     def __init__(self, text: object, status: int = 1) -> None:
         super().__init__(str(text))
         self.status = status
+
+
+def run(*words: str) -> str:
+    """Runs a command. Returns what it prints."""
+    try:
+        done = subprocess.run(words, stdin=subprocess.DEVNULL, capture_output=True, text=True, errors="replace")
+    except OSError as fault:
+        raise Failure(f"{words[0]} can't be run: {fault.strerror}") from fault
+    if done.returncode:
+        raise Failure(f"{words[0]}: {(done.stderr or done.stdout).strip()[-600:] or done.returncode}")
+    return done.stdout
 
 
 def leave(number: int, _: FrameType | None) -> None:

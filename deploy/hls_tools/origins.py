@@ -4,6 +4,7 @@ A response is taken for no more than it is: it has a longest length and a longes
 """
 import base64
 import contextlib
+import functools
 import http.client
 import netrc
 import re
@@ -12,9 +13,10 @@ import ssl
 import threading
 import time
 import urllib.parse
+from collections.abc import Callable
 from typing import NamedTuple
 
-from .channels import address_of_file
+from .channels import HOST, address_of_file, split_url
 from .failures import Failure
 
 TIMEOUT = 45.0                                  # seconds that an origin may be silent: it may plan a programme for 30
@@ -25,12 +27,7 @@ SLOWEST = 16 << 10                              # bytes a second of the slowest 
 LONG = 1 << 18                                  # bytes of a long text: it has no time for more on the slowest link
 SHORT = 4096                                    # bytes of a line
 TEXT = 1 << 24                                  # bytes of a playlist or a certificate
-HOST = r"[A-Za-z0-9]+(?:(?:\.|-+)[A-Za-z0-9]+)*"
 BROKEN = (OSError, http.client.HTTPException, ValueError)
-
-
-class Unreachable(Failure):
-    """The origin doesn't answer."""
 
 
 class Response(NamedTuple):
@@ -67,12 +64,8 @@ class Origin:
     """An origin, by its own address or by a channel's URL at an edge. A user and a password are the URL's, or those of ~/.netrc."""
 
     def __init__(self, word: str, *, authority: str | None = None, agent: str = "hls_tools", timeout: float = TIMEOUT) -> None:
-        url = urllib.parse.urlsplit(url_of(word))
-        try:
-            usable = url.scheme in ("http", "https") and url.hostname is not None and url.port != 0 and not url.query and not url.fragment
-        except ValueError:
-            usable = False
-        if not usable or not re.fullmatch(HOST + r"|[0-9a-f:.]+", url.hostname or ""):
+        url = split_url(url_of(word))
+        if url is None:
             raise Failure(f"{word} is no origin's address: write it as 10.0.0.1:8080, or as a channel's at an edge, https://edge.example.org/news", 2)
         self.prefix = url.path.rstrip("/")
         place = url.netloc.rpartition("@")[2]
@@ -80,11 +73,10 @@ class Origin:
         self.name = place if url.scheme == "http" and not self.prefix else self.url
         self.timeout, self.patience = timeout, PATIENCE
         self.headers = {"User-Agent": agent, **self._authorization(url)}
-        self.connection: http.client.HTTPConnection
+        kind: Callable[..., http.client.HTTPConnection] = http.client.HTTPConnection
         if url.scheme == "https":
-            self.connection = http.client.HTTPSConnection(url.hostname or "", url.port, timeout=timeout, context=trust(authority))
-        else:
-            self.connection = http.client.HTTPConnection(url.hostname or "", url.port, timeout=timeout)
+            kind = functools.partial(http.client.HTTPSConnection, context=trust(authority))
+        self.connection = kind(url.hostname or "", url.port, timeout=timeout)
 
     @staticmethod
     def _authorization(url: urllib.parse.SplitResult) -> dict[str, str]:
@@ -109,7 +101,7 @@ class Origin:
                               "signed it, or with the certificate itself if it is self-signed") from fault
             except BROKEN as fault:
                 if time.monotonic() - begun >= self.patience:
-                    raise Unreachable(f"{self.name} doesn't answer GET {path}: {printable(str(fault).encode()) if str(fault) else type(fault).__name__}") from None
+                    raise Failure(f"{self.name} doesn't answer GET {path}: {printable(str(fault).encode()) if str(fault) else type(fault).__name__}") from None
                 time.sleep(PAUSE)
                 continue
             wait = self._put_off(response)
@@ -143,7 +135,7 @@ class Origin:
         except BROKEN:
             self.connection.close()
             if not late.is_alive():
-                raise Unreachable(f"{self.name} doesn't answer: {path} wasn't done in {seconds:.0f} s") from None
+                raise Failure(f"{self.name} doesn't answer: {path} wasn't done in {seconds:.0f} s") from None
             raise
         finally:
             late.cancel()
@@ -153,9 +145,11 @@ class Origin:
         with contextlib.suppress(OSError, AttributeError):
             self.connection.sock.shutdown(socket.SHUT_RDWR)
 
-    def text(self, path: str, limit: int = TEXT) -> str:
+    def text(self, path: str) -> str:
         """Returns a text that has to be there."""
-        response = self.ask(path, limit)
+        return self.text_of(path, self.ask(path, TEXT))
+
+    def text_of(self, path: str, response: Response) -> str:
         if response.status != 200:
             raise Failure(f"{self.name}: {path} is {response.status}: {printable(response.body)}")
         try:

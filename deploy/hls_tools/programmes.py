@@ -37,21 +37,10 @@ class Wish(NamedTuple):
         return f"/hls/programme/{self.begin}/{self.end}/{name}"
 
 
-class Summary(NamedTuple):
-    """What was stored: a line about it, and the time in µs at which its media begin."""
-
-    line: str
-    begins: int
-
-
 def explain(name: str) -> str:
     """Returns what the program says of a refusal, or the name alone."""
-    if not re.fullmatch(r"[A-Za-z0-9]{1,40}", name):
-        return repr(name[:40])
-    with contextlib.suppress(OSError, subprocess.TimeoutExpired):
-        done = subprocess.run([PROGRAM, "explain", name], capture_output=True, text=True, timeout=10)
-        if done.returncode == 0:
-            return done.stdout.strip()
+    with contextlib.suppress(OSError):
+        return subprocess.run([PROGRAM, "explain", name], capture_output=True, text=True).stdout.strip() or name
     return name
 
 
@@ -68,16 +57,11 @@ def request_certificate(origin: Origin, wish: Wish) -> str:
     for word in (wish.begin, wish.end):
         if not re.fullmatch(r"[0-9TZ:.+-]{1,40}", word):
             raise Refused("BadQuery", f"refused: {word!r} is no time: {explain('BadQuery')}")
-    response = origin.ask(wish.path("certificate.txt"), TEXT)
-    line = printable(response.body)
-    if response.status == 200:
-        try:
-            return response.body.decode("ascii")
-        except UnicodeDecodeError:
-            raise Failure(f"{origin.name}: the certificate isn't ASCII: this isn't an origin") from None
-    if response.status in (400, 404, 410) and (found := re.fullmatch(r"refused (\w{1,40})", line)):
+    path = wish.path("certificate.txt")
+    response = origin.ask(path, TEXT)
+    if response.status in (400, 404, 410) and (found := re.fullmatch(r"refused (\w{1,40})", printable(response.body))):
         raise Refused(found[1], "refused: " + explain(found[1]))
-    raise Failure(f"{origin.name}: {wish.path('certificate.txt')} is {response.status}: {line[:80]}")
+    return origin.text_of(path, response)
 
 
 def refusal_of(origin: Origin, wish: Wish) -> str | None:
@@ -177,8 +161,9 @@ def store(folder: str, name: str, text: str) -> str:
     return text
 
 
-def load_programme(origin: Origin, wish: Wish, folder: str) -> Summary:
-    """Loads a programme into an empty folder: master.m3u8, a list and a file for each rendition, and the certificate."""
+def load_programme(origin: Origin, wish: Wish, folder: str) -> tuple[str, int]:
+    """Loads a programme into an empty folder: master.m3u8, a list and a file for each rendition, and the certificate. Returns a line about
+    it, and the time in µs at which its media begin."""
     certificate = read_certificate(store(folder, "certificate.txt", request_certificate(origin, wish)))
     try:
         count = count_renditions(store(folder, "master.m3u8", origin.text(wish.path("master.m3u8"))))
@@ -191,4 +176,4 @@ def load_programme(origin: Origin, wish: Wish, folder: str) -> Summary:
         raise Failure("its renditions are of several runs: the origin was restarted meanwhile")
     lengths = [length for _, length in certificate.segments(0)]
     size = sum(os.path.getsize(os.path.join(folder, f"{number}.mp4")) for number in range(count))
-    return Summary(f"{len(lengths)} segments, {sum(lengths) / 1e6:.6f} s, {count} renditions, {size} bytes, the certificate holds", certificate.begins)
+    return f"{len(lengths)} segments, {sum(lengths) / 1e6:.6f} s, {count} renditions, {size} bytes, the certificate holds", certificate.begins

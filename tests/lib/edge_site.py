@@ -8,6 +8,7 @@ import http.client
 import os
 import re
 import resource
+import shutil
 import socket
 import ssl
 import subprocess
@@ -96,6 +97,9 @@ class Edge:
         write(self.conf, NGINX.format(folder=self.folder, workers=workers, user="www-data" if os.getuid() == 0 else "nobody",
                                       files=resource.getrlimit(resource.RLIMIT_NOFILE)[1]))
         self.words = ["nginx", "-c", self.conf, "-p", self.folder, "-e", f"{self.folder}/error.log"]
+        # the tools' nginx is this one
+        self.environment = {**os.environ, "PATH": f"{self.folder}/bin:{os.environ['PATH']}"}
+        write(f"{self.folder}/bin/nginx", f'#!/bin/sh\nexec {shutil.which("nginx")} {" ".join(self.words[1:])} "$@"\n', 0o755)
         tried = self.edge("--no-reload")
         if tried.returncode:
             raise SystemExit(tried.stderr)
@@ -118,8 +122,8 @@ class Edge:
     def tool(self, name, *words):
         """A tool on this edge's files; where it has told nginx to reload, once nginx has done so."""
         before, written = self.serving(), self.written()
-        done = subprocess.run([os.path.join(ROOT, "deploy", name), *words, "--folder", self.files, "--nginx", " ".join(self.words)],
-                              capture_output=True, text=True, timeout=60)
+        done = subprocess.run([os.path.join(ROOT, "deploy", name), *words, "--folder", self.files],
+                              env=self.environment, capture_output=True, text=True, timeout=60)
         begun = time.monotonic()
         while done.returncode == 0 and self.written() != written and self.serving() & before and time.monotonic() - begun < 30:
             time.sleep(0.05)
