@@ -1,7 +1,8 @@
 //! Restores a channel from records and stored media.
 
-ghost use Rattle.std.specs.Prelude.{◌≡◌, ◌↔◌, ℕ, ◌≤◌, ◌<◌, ◌-◌, ◌^◌, ◌∷◌, ◌++◌, List, length, replicate, slice_get, IfOk, IfErr, IsTrue, MatchOption};
+ghost use Rattle.std.specs.Prelude.{◌≡◌, ◌↔◌, ℕ, ◌+◌, ◌≤◌, ◌<◌, ◌-◌, ◌^◌, ◌∷◌, ◌++◌, List, length, replicate, slice_get, slice_range, IfOk, IfErr, IsTrue, MatchOption};
 ghost use Rattle.std.specs.Option.{option_copied};
+ghost use Rattle.hls_journal_log.specs.Checksum.{checksum_of};
 ghost use Rattle.hls_core_laws.specs.Moves.{IsFitting, state_with_entry};
 ghost use Rattle.hls_core_laws.specs.Outcome.{New, outcome_of};
 ghost use Rattle.hls_core_laws.specs.Runs.{first_state};
@@ -367,9 +368,22 @@ fn read_piece(at: u64, piece: &MediaPiece, body: &[u8]) -> Result<Bytes, RecallF
         return Err(RecallFault::Missing);
     }
     let bytes = piece.bytes.slice(from as usize..(from + len) as usize)?;
-    let sum = checksum_of(at, &bytes).to_le_bytes();
+    let sum = sum_in_piece(at, piece, &bytes).to_le_bytes();
     if body[8..UNIT_HEAD_AT] != sum[..] {
         return Err(RecallFault::Missing);
     }
     Ok(bytes)
+}
+
+/// Returns the checksum of bytes of a piece and their offset. If the piece has no others, it is the piece's own.
+fn sum_in_piece(at: u64, piece: &MediaPiece, bytes: &[u8]) -> u64
+    requires place { piece.now.start ≤ at }
+    requires within { at + length bytes.now ≤ piece.now.start + length piece.now.bytes }
+    requires is { bytes.now ≡ slice_range piece.now.bytes (at - piece.now.start) (at - piece.now.start + length bytes.now) }
+    ensures { result ≡ checksum_of at bytes.now }
+{
+    if bytes.len() == piece.bytes.len() {
+        return piece.sum;
+    }
+    checksum_of(at, bytes)
 }

@@ -15,7 +15,7 @@ use crate::store_paths::{StorePaths, is_there};
 use crate::sync_mode::SyncMode;
 use bytes::Bytes;
 use hls_journal::is_closed;
-use hls_journal_log::{LogContent, begin_log, checksum_of, read_disk, read_log};
+use hls_journal_log::{LogContent, begin_log, read_disk, read_log};
 use std::alloc::Global;
 use std::fs::{self, File};
 use std::io::{self, ErrorKind};
@@ -94,7 +94,7 @@ fn check_units<R: Files<File = File>>(
 ) -> Result<(), OpenFault> {
     for unit in &index.units {
         match read_unit(rt, alloc, folder, unit, starts)? {
-            Some(bytes) if checksum_of(unit.at, &bytes) == unit.sum => {
+            Some(piece) if piece.sum == unit.sum => {
                 report.media_bytes = report.media_bytes.saturating_add(unit.len as u64);
             }
             _ => report.missing = report.missing.saturating_add(1),

@@ -26,6 +26,7 @@ mod media_span;
 mod media_starts;
 mod media_track;
 mod older_format;
+mod open_media;
 mod records;
 mod renewal;
 mod restored;

@@ -1,27 +1,35 @@
 //! Reads stored media.
 
-use crate::batch::into_bytes;
-use crate::fault::{OpenFault, StorePart, open_fault};
+use crate::fault::OpenFault;
 use crate::kept_units::{KeptUnit, MediaIndex};
-use crate::media_span::find_span;
 use crate::media_starts::MediaStarts;
-use crate::media_track::media_path;
-use bytes::Bytes;
-use hls_boxes::kinds::UNIT_LIMIT;
+use crate::open_media::OpenMedia;
 use hls_journal::push_zeros;
 use hls_journal_laws::stored_media::{MediaPiece, StoredMedia};
+use rayon::prelude::*;
 use std::alloc::{AllocError, Global};
 use std::fs::File;
-use std::io::{self, ErrorKind};
+use std::io;
 use std::os::unix::fs::FileExt;
 use std::rt::Files;
+use std::thread::Threads;
 
 /// The most bytes that are read by one call.
 const PIECE_LEN: usize = 131072;
 
+/// The number of units that are read in parallel before the next ones are begun: a unit is in two files at most, and all are open.
+/// After a fault no further unit is read.
+const ROUND_UNITS: usize = 256;
+
+/// The minimum number of units for a thread.
+const MIN_UNITS: usize = 16;
+
+/// What was read of a unit; `None` if the files don't have it.
+type UnitOutcome = Result<Option<MediaPiece>, OpenFault>;
+
 /// Reads the units of an index, of each of the given number of renditions, of a channel that begins at these places. What the files don't
-/// have is left out.
-pub(crate) fn read_media<R: Files<File = File>>(
+/// have is left out. The first unit that can't be read decides, whichever thread read it.
+pub(crate) fn read_media<R: Files<File = File> + Threads + Sync>(
     rt: &R,
     alloc: Global,
     folder: &str,
@@ -30,19 +38,66 @@ pub(crate) fn read_media<R: Files<File = File>>(
     starts: &MediaStarts,
 ) -> Result<Vec<StoredMedia>, OpenFault> {
     let mut media = make_media(alloc, renditions)?;
-    for unit in &index.units {
-        let Some(stored) = media.get_mut(unit.rendition) else {
-            continue;
-        };
-        if let Some(bytes) = read_unit(rt, alloc, folder, unit, starts)? {
-            push_piece(stored, unit.at, bytes)?;
-        }
+    for units in index.units.chunks(ROUND_UNITS) {
+        let files = open_files(rt, alloc, OpenMedia::new(alloc, folder, starts), units)?;
+        let outcomes = read_units(rt, alloc, &files, units, renditions)?;
+        add_units(&mut media, units, outcomes)?;
     }
     Ok(media)
 }
 
-fn push_piece(stored: &mut StoredMedia, start: u64, bytes: Bytes) -> Result<(), AllocError> {
-    stored.pieces.push(MediaPiece { start, bytes })?;
+/// Opens the files of units.
+fn open_files<'a, R: Files<File = File>>(
+    rt: &R,
+    alloc: Global,
+    mut files: OpenMedia<'a>,
+    units: &[KeptUnit],
+) -> Result<OpenMedia<'a>, AllocError> {
+    for unit in units {
+        files.open_files(rt, alloc, unit)?;
+    }
+    Ok(files)
+}
+
+/// Reads units whose files are open, with one thread for each processor. Those of no rendition are left out.
+fn read_units<R: Threads + Sync>(
+    rt: &R,
+    alloc: Global,
+    files: &OpenMedia<'_>,
+    units: &[KeptUnit],
+    renditions: usize,
+) -> Result<Vec<UnitOutcome>, AllocError> {
+    units
+        .par_iter()
+        .with_min_len(MIN_UNITS)
+        .map(|unit: &KeptUnit| -> UnitOutcome {
+            if unit.rendition < renditions {
+                files.read_unit(alloc, unit)
+            } else {
+                Ok(None)
+            }
+        })
+        .collect(rt, alloc)
+}
+
+/// Adds what was read of units to their renditions.
+fn add_units(
+    media: &mut [StoredMedia],
+    units: &[KeptUnit],
+    outcomes: Vec<UnitOutcome>,
+) -> Result<(), OpenFault> {
+    for (unit, outcome) in units.iter().zip(outcomes) {
+        if let Some(piece) = outcome?
+            && let Some(stored) = media.get_mut(unit.rendition)
+        {
+            push_piece(stored, piece)?;
+        }
+    }
+    Ok(())
+}
+
+fn push_piece(stored: &mut StoredMedia, piece: MediaPiece) -> Result<(), AllocError> {
+    stored.pieces.push(piece)?;
     Ok(())
 }
 
@@ -56,45 +111,17 @@ fn make_media(alloc: Global, renditions: usize) -> Result<Vec<StoredMedia>, Allo
     Ok(media)
 }
 
-/// Reads the bytes of a unit of a channel that begins at these places; `None` if the files don't have them all.
+/// Reads a unit of a channel that begins at these places; `None` if the files don't have it all.
 pub(crate) fn read_unit<R: Files<File = File>>(
     rt: &R,
     alloc: Global,
     folder: &str,
     unit: &KeptUnit,
     starts: &MediaStarts,
-) -> Result<Option<Bytes>, OpenFault> {
-    if unit.len as u64 > UNIT_LIMIT {
-        return Ok(None);
-    }
-    let folder = format!(in alloc; "{folder}/{}", unit.rendition)?;
-    let mut bytes = Vec::with_capacity(alloc, unit.len)?;
-    let place = starts.get(unit.rendition).saturating_add(unit.at);
-    match read_spans(rt, alloc, &folder, place, unit.len, &mut bytes) {
-        Ok(()) => Ok(Some(into_bytes(bytes)?)),
-        Err(error) if error.kind() == ErrorKind::NotFound => Ok(None),
-        Err(error) if error.kind() == ErrorKind::UnexpectedEof => Ok(None),
-        Err(error) => Err(open_fault(StorePart::Media, error)),
-    }
-}
-
-/// Appends `len` bytes at a place out of the files in a folder.
-fn read_spans<R: Files<File = File>>(
-    rt: &R,
-    alloc: Global,
-    folder: &str,
-    place: u64,
-    len: usize,
-    bytes: &mut Vec<u8>,
-) -> io::Result<()> {
-    let mut done = 0;
-    'spans: while done < len {
-        let span = find_span(place.saturating_add(done as u64), len - done);
-        let file = File::open(rt, media_path(alloc, folder, span.number)?)?;
-        read_pieces(&file, span.place, span.len, bytes)?;
-        done += span.len;
-    }
-    Ok(())
+) -> Result<Option<MediaPiece>, OpenFault> {
+    let mut files = OpenMedia::new(alloc, folder, starts);
+    files.open_files(rt, alloc, unit)?;
+    files.read_unit(alloc, unit)
 }
 
 /// Appends `len` bytes at a place of a file. Each piece is read while the zeros that make room for it are in the processor's cache, so

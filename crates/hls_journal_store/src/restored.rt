@@ -15,6 +15,7 @@ use std::alloc::Global;
 use std::fs::File;
 use std::rt::Files;
 use std::sync::Arc;
+use std::thread::Threads;
 
 /// A channel that the first records of a log restored.
 #[derive(Drop)]
@@ -36,7 +37,7 @@ pub(crate) struct Source<'a> {
 
 /// Restores a channel from the records after the first. Of those that no sync covered, the first whose unit the media don't have is
 /// passed over with all that follow: a power loss may leave a record without its unit. `synced` is the number of the others.
-pub(crate) fn restore_prefix<R: Files<File = File>>(
+pub(crate) fn restore_prefix<R: Files<File = File> + Threads + Sync>(
     rt: &R,
     alloc: Global,
     source: &Source<'_>,
@@ -57,7 +58,7 @@ pub(crate) fn restore_prefix<R: Files<File = File>>(
 }
 
 /// Restores a channel from these records and no others.
-fn restore_first<R: Files<File = File>>(
+fn restore_first<R: Files<File = File> + Threads + Sync>(
     rt: &R,
     alloc: Global,
     source: &Source<'_>,

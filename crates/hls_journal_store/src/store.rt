@@ -27,6 +27,7 @@ use std::alloc::{AllocError, Global};
 use std::fs::File;
 use std::rt::Files;
 use std::sync::Arc;
+use std::thread::Threads;
 
 /// An open journal, and its channel.
 #[derive(Drop)]
@@ -98,7 +99,7 @@ struct ChannelFiles {
 /// # Errors
 /// `Busy`: another process has the folder. `Marked`: players have seen more than the log has. `Damaged`, `Channel`: the folder doesn't
 /// restore a channel with this configuration. `Disk`: a call on a file failed. `Memory`: an allocation failed.
-pub fn open_store<R: Files<File = File>>(
+pub fn open_store<R: Files<File = File> + Threads + Sync>(
     rt: &R,
     alloc: Global,
     folder: &str,
@@ -149,7 +150,7 @@ fn shorten_log<R: Files<File = File>>(
 }
 
 /// Opens the log, restores its channel, and begins to write.
-fn open_log<R: Files<File = File>>(
+fn open_log<R: Files<File = File> + Threads + Sync>(
     rt: &R,
     alloc: Global,
     paths: &StorePaths,
@@ -206,7 +207,7 @@ fn find_files<R: Files<File = File>>(
 }
 
 /// Returns the channel of a log: the restored one, or a new one if there is no record.
-fn find_channel<R: Files<File = File>>(
+fn find_channel<R: Files<File = File> + Threads + Sync>(
     rt: &R,
     alloc: Global,
     media: &str,

@@ -46,10 +46,11 @@ use hls_commands::{
 use hls_housekeeper::{settings_needs, write_needs};
 use hls_io::{Counted, write_whole};
 use hls_settings::{PrintableArgument, Settings, SettingsFault, SettingsMessage, read_settings};
+use std::fs::File;
 use std::io::{Eprint, ErrorKind};
 use std::net::{Net, TcpListener, TcpStream};
 use std::process::ExitCode;
-use std::rt::Env;
+use std::rt::{Env, Files};
 use std::sync::Wait;
 use std::thread::Threads;
 use std::time::Clock;
@@ -444,6 +445,7 @@ fn asks_for_help(arguments: &[String]) -> bool {
 fn run_command<R>(rt: &HostRuntime, threads: &R, arguments: &[String]) -> ExitCode
 where
     R: Net<Listener = TcpListener, Stream = TcpStream>
+        + Files<File = File>
         + Threads
         + Wait
         + Clock

@@ -13,9 +13,11 @@ use hls_settings::{JournalSettings, PrintableArgument, SyncSetting};
 use hls_time::monotonic_ms;
 use std::alloc::Global;
 use std::fmt::{self, Display, Formatter, Write};
+use std::fs::File;
 use std::io::Eprint;
-use std::rt::Env;
+use std::rt::{Env, Files};
 use std::sync::Arc;
+use std::thread::Threads;
 
 /// The journal of a channel.
 #[derive(Drop)]
@@ -125,8 +127,9 @@ fn begin_channel(
     }
 }
 
-/// Opens the journal in a folder: the channel that it has, or a new one with this configuration. Logs what was restored.
-pub fn open_journal(
+/// Opens the journal in a folder: the channel that it has, or a new one with this configuration, read by threads of `rt`. Logs what was restored.
+pub fn open_journal<R: Files<File = File> + Threads + Sync>(
+    rt: &R,
     host: &HostRuntime,
     alloc: Global,
     folder: &str,
@@ -143,7 +146,7 @@ pub fn open_journal(
         follower,
         snapshot,
         start,
-    } = match open_store(host, alloc, folder, config, mode, new_run) {
+    } = match open_store(rt, alloc, folder, config, mode, new_run) {
         Ok(opened) => opened,
         Err(fault) => return Err(report_stop(host, folder, &fault)),
     };

@@ -16,6 +16,7 @@ use hls_settings::{
 };
 use std::alloc::{AllocError, Global};
 use std::convert::AsStr;
+use std::fs::File;
 use std::io::Eprint;
 use std::net::{Ipv4Addr, Net, SocketAddrV4, TcpListener, TcpStream};
 use std::rt::{Env, Files};
@@ -97,7 +98,8 @@ fn plain_start(alloc: Global, settings: &Settings) -> Result<ChannelStart, Alloc
 }
 
 /// Returns the start of a channel: with a journal, what its folder has.
-fn start_channel(
+fn start_channel<R: Files<File = File> + Threads + Sync>(
+    rt: &R,
     host: &HostRuntime,
     alloc: Global,
     settings: &Settings,
@@ -113,7 +115,7 @@ fn start_channel(
     let Ok(config) = settings.config.share() else {
         return Err(JournalStop::Memory);
     };
-    let start = open_journal(host, alloc, folder, config, journal)?;
+    let start = open_journal(rt, host, alloc, folder, config, journal)?;
     match settings.server.run {
         Some(run) if run != start.snapshot.config().base().run() => {
             let level = OperatorLog::new(host).warning_prefix();
@@ -298,6 +300,7 @@ pub fn run_serve<'a, S: AsStr, R>(
 ) -> ServeEnd
 where
     R: Net<Listener = TcpListener, Stream = TcpStream>
+        + Files<File = File>
         + Threads
         + Wait
         + Clock
@@ -323,7 +326,7 @@ where
         Ok(settings) => settings,
         Err(fault) => return ServeEnd::Base(fault),
     };
-    match start_channel(host, alloc, &settings, folder, journal) {
+    match start_channel(rt, host, alloc, &settings, folder, journal) {
         Ok(start) => serve_channel(rt, host, alloc, &settings, start),
         Err(JournalStop::Memory) => ServeEnd::Memory,
         Err(JournalStop::Other) => ServeEnd::OtherJournal,

@@ -1,0 +1,8 @@
+use Rattle.std.proofs.Common.{◌-◌, ◌≤◌}
+use Rattle.hls_journal_store.proofs.open_media.OpenMedia.open_files.Given as goal
+
+abbrev pub invariant-spans : goal.invariant-spans
+invariant-spans g l = l.done ≤ l.unit.len
+
+abbrev pub decreases-spans : goal.decreases-spans
+decreases-spans g l = l.unit.len - l.done
