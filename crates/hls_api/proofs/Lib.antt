@@ -1,4 +1,5 @@
 mod Recents
+mod CachedQueries
 mod Parts
 mod Statuses
 mod NamedSpans

@@ -1,8 +1,8 @@
 -- Two states of one log with equally many events have the same live playlists.
-use Rattle.std.proofs.Common.{◌≡◌, ◌∙◌, ℕ, suc, ◌≤◌, List, [], ◌∷◌, ◌++◌, length, ◌⊎◌, inl, inr, Bool, true, false, Option, Some, None, Result, refl, sym, ap, subst, arith, length-append, if◌then◌else◌}
-use Rattle.std.{specs.Prelude.{All, slice_index_or, option_map}, proofs.lemmas.List.Elements.{All-nil, All-push}}
+use Rattle.std.proofs.Common.{◌≡◌, ◌∙◌, ℕ, suc, ◌≤◌, List, [], ◌∷◌, ◌++◌, length, ◌⊎◌, inl, inr, Bool, true, false, Option, Some, None, Result, refl, sym, ap, subst, arith, append-nil, length-append, if◌then◌else◌}
+use Rattle.std.{specs.Prelude.{All, slice_index_or, option_map}, proofs.lemmas.List.{nil_from_length, Elements.All-nil, Elements.All-push}}
 use Rattle.hls_core_laws.specs.{State.State, Follows.Follows, Moves.{Moves, entry_of}, PassView.{PassView, MaySeeLater, Submits}, Outcome.{Outcome, New, Repeated, Refused}}
-use Rattle.hls_core_laws.specs.declared.{event.Event.Event, done.Done.Done, refusal.Refusal.Refusal}
+use Rattle.hls_core_laws.specs.declared.{event.Entry.Entry, event.Event.Event, done.Done.Done, refusal.Refusal.Refusal}
 use Rattle.hls_core_laws.specs.Config.{ConfigData}
 use Rattle.hls_core_laws.proofs.Callers.{continues_of}
 use Rattle.hls_m3u8.specs.Lines.{media_text}
@@ -18,7 +18,7 @@ use Rattle.hls_api.specs.PlaylistCache.{AreListsOf, HasVersion, HasSameListsBefo
 
 list_stays : (source : Option State) (b : State) → HasVersion source (length b.log) → HasSameListsBefore source b → (uris : MediaUris) (r : ℕ) (text : List ℕ) → live_text_in source uris r ≡ Some text → live_text_in (Some b) uris r ≡ Some text
 list_stays None b had follows uris r text is = cc
-list_stays (Some a) b had follows uris r text is = (follows a refl).1 (sym (had a refl)) uris r ∙ is
+list_stays (Some a) b had follows uris r text is = ((follows a refl).1 (sym (had a refl))).texts uris r ∙ is
 
 -- after a step to another state, or to the same
 pub gone_on : (source new : Option State) (b : State) (old now : ℕ) (lists kept : List CachedPlaylist) → AreListsOf source old lists → HasSameListsBefore source b → new ≡ Some b → now ≡ length b.log
@@ -52,12 +52,25 @@ log_grows : (a b : State) → Follows a b → length a.log ≤ length b.log
 log_grows a b (inl same) = omega (arith, ap (λ (s : State). length s.log) same)
 log_grows a b (inr follows) = omega (arith, ap length follows.continues.log, length-append a.log follows.continues.rest)
 
+log_stays : (a b : State) → Follows a b → length b.log ≡ length a.log → b.log ≡ a.log
+log_stays a b follows as_many =
+    let on = continues_of a b follows in
+    let none : on.rest ≡ [] = nil_from_length on.rest (omega (arith, ap length on.log, length-append a.log on.rest, as_many)) in
+    on.log ∙ ap (λ (rest : List Entry). a.log ++ rest) none ∙ append-nil a.log
+
 lists_follow : (source : Option State) (old new : State) → HasSameListsBefore source old → Follows old new → HasSameListsBefore source new
 lists_follow source old new had follows a is =
     let was = had a is in
     let more = log_grows old new follows in (
       omega (arith, was.0, more),
-      λ same uris r. texts_stay uris r old new new follows (inl refl) (omega (arith, same, was.0, more)) ∙ was.1 (omega (arith, same, was.0, more)) uris r,
+      λ same.
+          let both = was.1 (omega (arith, same, was.0, more)) in
+          let as_many : length new.log ≡ length old.log = omega (arith, same, was.0, more) in
+          record {
+            config = (continues_of old new follows).config ∙ both.config;
+            log = log_stays old new follows as_many ∙ both.log;
+            texts = λ uris r. texts_stay uris r old new new follows (inl refl) as_many ∙ both.texts uris r;
+          },
     )
 
 lists_move : (source : Option State) (met new : State) (by : ℕ) (event : Event) (outcome : Outcome) → HasSameListsBefore source met → Moves met by event outcome new → HasSameListsBefore source new

@@ -16,6 +16,7 @@ pub mod Queries
 pub mod Responses
 pub mod Players
 pub mod Programmes
+pub mod ProgrammeCache
 pub mod SinceLists
 pub mod PathAnswers
 pub mod NamedSpans

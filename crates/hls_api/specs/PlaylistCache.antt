@@ -24,6 +24,12 @@ HasVersion source version = (s : State) → source ≡ Some s → version ≡ le
 abbrev pub AreListsOf : Option State → ℕ → List CachedPlaylist → Type 0
 AreListsOf source version lists = HasVersion source version × All (IsListOf source) lists
 
--- the state has at most as many events as another one, and if it has as many, both have the same playlists
+-- two states of one channel have the same events, so the same playlists
+pub record HaveSameLists (a s : State) : Type 0 where
+  pub config : s.config ≡ a.config
+  pub log : s.log ≡ a.log
+  pub texts : (uris : MediaUris) (r : ℕ) → live_text uris s r ≡ live_text uris a r
+
+-- the state has at most as many events as another one, and if it has as many, both have the same
 abbrev pub HasSameListsBefore : Option State → State → Type 0
-HasSameListsBefore source s = (a : State) → source ≡ Some a → (length a.log ≤ length s.log) × (length a.log ≡ length s.log → (uris : MediaUris) (r : ℕ) → live_text uris s r ≡ live_text uris a r)
+HasSameListsBefore source s = (a : State) → source ≡ Some a → (length a.log ≤ length s.log) × (length a.log ≡ length s.log → HaveSameLists a s)

@@ -20,6 +20,7 @@ pub mod parse_route;
 mod player_responses;
 mod playlist_cache;
 mod playlist_responses;
+mod programme_cache;
 mod programme_responses;
 mod query;
 mod response;
@@ -41,6 +42,7 @@ pub use playlist_responses::{
     live_master_response, live_playlist_response, path_master_response, recent_playlist_response,
     run_response,
 };
+pub use programme_cache::ProgrammeCache;
 pub use programme_responses::{
     ProgrammeStart, found_plan_response, invalid_programme_response, start_programme,
 };

@@ -1,6 +1,6 @@
 //! Responses with playlists.
 
-ghost use Rattle.std.specs.Prelude.{◌≡◌, IfOk, option_map};
+ghost use Rattle.std.specs.Prelude.{◌≡◌, IfOk, option_copied, option_map};
 ghost use Rattle.hls_api.specs.{Responses.playlist_answer, Playlists.live_master_text, ResponseContents.content_of};
 ghost use Rattle.hls_api.specs.Responses as spec;
 ghost use Rattle.hls_api.specs.Players.{list_policy, live_list_answer, path_master_answer, recent_list_answer, run_answer, with_policy};
@@ -8,6 +8,7 @@ ghost use Rattle.hls_api.specs.Players.{list_policy, live_list_answer, path_mast
 use crate::response::Response;
 use crate::response_content::ResponseContent;
 use crate::text_responses::{fault_response, text_response};
+use bytes::Bytes;
 use hls_core::snapshot::Snapshot;
 use hls_http::fault::HttpFault;
 use hls_http::response_parts::{CachePolicy, ContentType, ExtraField, Status};
@@ -38,6 +39,19 @@ pub(crate) fn optional_playlist_response(
 {
     match text {
         Some(text) => Ok(playlist_response(ResponseContent::from_text(text))),
+        None => fault_response(alloc, HttpFault::NotFound),
+    }
+}
+
+/// A playlist that is shared; 404 if there is none.
+pub(crate) fn shared_playlist_response(
+    alloc: Global,
+    text: Option<&Bytes>,
+) -> Result<Response, AllocError>
+    ensures { IfOk result (λ a. a ≡ spec.list_answer (option_copied text.entry)) }
+{
+    match text {
+        Some(text) => Ok(playlist_response(ResponseContent::from_shared(text.clone()?))),
         None => fault_response(alloc, HttpFault::NotFound),
     }
 }

@@ -1,14 +1,13 @@
 //! Responses with a programme by its address: its playlists and its certificate, of the texts that a planner made.
 
-ghost use Rattle.std.specs.Prelude.{◌≡◌, Err, IfOk, MatchOption, Some, option_map};
-ghost use Rattle.std.specs.Option.{option_copied};
+ghost use Rattle.std.specs.Prelude.{◌≡◌, Err, IfOk, MatchOption, Some};
 ghost use Rattle.hls_catchup.specs.Replies.{IsAnswered, ReplyData};
 ghost use Rattle.hls_api.specs.Programmes as spec;
 
 use crate::catchup_params::CatchupParams;
 use crate::catchup_query::{CatchupQuery, QueryFault};
 use crate::job_responses::query_response;
-use crate::playlist_responses::optional_playlist_response;
+use crate::playlist_responses::shared_playlist_response;
 use crate::query::{make_request, resolve_query};
 use crate::response::Response;
 use crate::route::ProgrammeFile;
@@ -31,16 +30,6 @@ pub enum ProgrammeStart {
     Refused(Response),
 }
 
-/// Copies a text that may be missing.
-fn copy_text(alloc: Global, text: Option<&[u8]>) -> Result<Option<Vec<u8>>, AllocError>
-    ensures { IfOk result (λ copy. option_map (λ t. t.items) copy ≡ option_copied text.entry) }
-{
-    match text {
-        Some(text) => Ok(Some(Vec::from_slice(alloc, text)?)),
-        None => Ok(None),
-    }
-}
-
 /// A file of a programme: a playlist, which is 404 if there is no plan, or the certificate.
 fn programme_file_response(
     alloc: Global,
@@ -50,14 +39,8 @@ fn programme_file_response(
     ensures { (reply : ReplyData) → texts.now ≡ Some reply → IfOk result (λ a. a ≡ spec.programme_file_answer file reply) }
 {
     match file {
-        ProgrammeFile::Master => {
-            let text = copy_text(alloc, texts.master())?;
-            optional_playlist_response(alloc, text)
-        }
-        ProgrammeFile::List(rendition) => {
-            let text = copy_text(alloc, texts.list(rendition))?;
-            optional_playlist_response(alloc, text)
-        }
+        ProgrammeFile::Master => shared_playlist_response(alloc, texts.master()),
+        ProgrammeFile::List(rendition) => shared_playlist_response(alloc, texts.list(rendition)),
         ProgrammeFile::Certificate => {
             let text = texts.certificate().clone()?;
             Ok(shared_text_response(Status::Done, text))

@@ -3,6 +3,7 @@ mod HoldLaws
 mod PassLaws
 mod SessionLaws
 mod TraceLaws
+mod StepLaws
 mod CallLaws
 mod MendLaws
 mod WithinLaws

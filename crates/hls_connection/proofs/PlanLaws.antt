@@ -1,15 +1,32 @@
 -- What is sent to requests for programmes.
 use Rattle.hls_api.specs.declared.route.ServedChannel.{ServedChannel}
-use Rattle.std.proofs.Common.{◌≡◌, true, false, ℕ, List, [], Result, Ok, inl, subst}
+use Rattle.std.proofs.Common.{◌≡◌, true, false, ℕ, List, [], Some, Result, Ok, inl, subst, sym}
 use Rattle.httparse.specs.Grammar.{RequestHead}
 use Rattle.hls_http.specs.{declared.framing.BodyFraming.BodyFraming, declared.method.Method.Method, Actions.sends_close}
-use Rattle.hls_api.specs.{Acts.Act, Responses.ResponseData}
+use Rattle.hls_api.specs.{Acts.{Act, ActsExtend, Knowledge, RecordsLook}, OtherActors.OtherActors, Responses.ResponseData}
 use Rattle.hls_api.specs.Exchanges.{HandlesProgramme, continue_prefix, request_of, to_head}
-use Rattle.hls_api.specs.declared.{catchup_query.TimePoint.TimePoint, route.ProgrammeFile.ProgrammeFile}
+use Rattle.hls_api.specs.Programmes.{ShowsFound, StartsProgramme}
+use Rattle.hls_api.specs.declared.programme_responses.ProgrammeStart.{ProgrammeStart}
+use Rattle.hls_api.specs.declared.programme_responses.ProgrammeStart.TheVariants.{Planned}
+use Rattle.hls_catchup.specs.declared.request.Request.{Request}
+use Rattle.hls_core_laws.specs.State.{State}
+use Rattle.hls_jobs.specs.Plans.{HasAddedPlan}
+use Rattle.hls_jobs.specs.declared.plans.FoundPlan.{FoundPlan}
+use Rattle.hls_api.specs.declared.{catchup_query.CatchupQuery.CatchupQuery, catchup_query.TimePoint.TimePoint, route.ProgrammeFile.ProgrammeFile}
 use Rattle.hls_connection.specs.{declared.request_context.RequestContext.RequestContext, declared.state.Transition.Transition}
 use Rattle.hls_connection.specs.{RequestContexts.{ForQuery, IsContextOf, IsDueFor, IsMadeResponse}, States.{IsHandled, RespondsWith}, Waits.may_wait, WithinBody.IsDiscarded}
 use Rattle.hls_connection.proofs.{AnswerLaws.replies_discarded, CallLaws.response_due, PlayerLaws.programme_begun}
 use Rattle.hls_api.specs.declared.route.Route.TheVariants as routes
+
+-- what was done stays so while the keeper knows nothing more
+pub acts_kept : (m : OtherActors) (a b now : Knowledge) (old new : List Act) → now ≡ b → ActsExtend m a old b new → ActsExtend m a old now new
+acts_kept m a b now old new same done = subst (λ (k : Knowledge). ActsExtend m a old k new) (sym same) done
+
+-- the response shows the plan of a query's request, as it was found or added
+pub planned_begun : (s : State) (query : CatchupQuery) (file : ProgrammeFile) (a b : List Act) (begun : ProgrammeStart) (request : Request) (found : FoundPlan) (shown : ResponseData) → RecordsLook a s b
+    → StartsProgramme s query begun → begun ≡ Planned request → HasAddedPlan request found → ShowsFound file found shown → HandlesProgramme (Some query) file a b shown
+planned_begun s query file a b begun request found shown looks starts is added shows =
+    (s, looks, (Planned request, subst (λ (x : ProgrammeStart). StartsProgramme s query x) is starts, inl (found, added, shows)))
 
 -- a response to one whose body was discarded
 pub sent_programme : {E : Type 0} {channel : ServedChannel} {stream first unread : List ℕ} {context : RequestContext} {last : BodyFraming} (start stop : TimePoint) (file : ProgrammeFile) (acts : List Act)

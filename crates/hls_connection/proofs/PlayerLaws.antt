@@ -1,8 +1,10 @@
 -- The replies to players are made of the state that is seen.
-use Rattle.std.proofs.Common.{◌≡◌, ◌∙◌, true, List, [], Option, Some, None, IfOk, Result, Ok, Err, inl, inr, ap, refl, sym}
+use Rattle.std.proofs.Common.{◌≡◌, ◌∙◌, ℕ, true, List, [], Option, Some, None, IfOk, Result, Ok, Err, inl, inr, ap, refl, sym}
 use Rattle.hls_api.specs.Acts.{Act, ActsChangeNothing, Looked, RecordsLook}
 use Rattle.hls_api.specs.Exchanges.{HandlesProgramme, IsServedBy, RequestParams, shown_to_player}
-use Rattle.hls_api.specs.Responses.{ResponseData}
+use Rattle.hls_api.specs.Responses.{ResponseData, metrics_answer}
+use Rattle.hls_catchup.specs.Jobs.Shared.{HasCounted}
+use Rattle.hls_metrics.specs.declared.measured.Measured.{Measured}
 use Rattle.hls_api.specs.Programmes.{ShowsFound, StartsProgramme}
 use Rattle.hls_api.specs.Queries.{programme_query_in}
 use Rattle.hls_api.specs.Routes.{allows}
@@ -32,6 +34,12 @@ pub responds_to_player : {E : Type 0} (q : RequestParams) (route : Route) (a b :
     IfOk result (λ answer. shown_to_player q route s ≡ Some answer) → RespondsBy (λ x y answer. IsServedBy q route x answer y) a b result
 responds_to_player q route a b s (Ok answer) looks shown = player_served q route a b s answer looks shown
 responds_to_player q route a b s (Err e) looks shown = inl (inr (Looked s, inl (tt {0}), looks))
+
+-- the metrics are of the state that is seen
+pub responds_with_metrics : {E : Type 0} (q : RequestParams) (a b : List Act) (s : State) (result : Result ResponseData E) → RecordsLook a s b
+    → IfOk result (λ answer. (jobs : ℕ) × HasCounted jobs × ((measured : Measured) × (answer ≡ metrics_answer s jobs measured))) → RespondsBy (λ x y answer. IsServedBy q routes.Metrics x answer y) a b result
+responds_with_metrics q a b s (Ok answer) looks (jobs, counted, (measured, is)) = (jobs, counted, (measured, (s, looks, is)))
+responds_with_metrics q a b s (Err e) looks made = inl (inr (Looked s, inl (tt {0}), looks))
 
 -- ---- programmes
 

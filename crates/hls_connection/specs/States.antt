@@ -53,6 +53,11 @@ abbrev pub SuitsState : Knowledge → ConnectionState → Type 0
 SuitsState known (states.Receive r) = SuitsTarget known r.target r.taken × IsForTarget r.target r.route r.context
 SuitsState known state = Unit {0}
 
+-- a body is received
+abbrev pub is_receiving : ConnectionState → Bool
+is_receiving (states.Receive r) = true
+is_receiving state = false
+
 -- the event for a failed read
 abbrev pub read_failure_event_in : ConnectionState → Option SessionEvent
 read_failure_event_in (states.Receive r) = ingest_event r (Err (Stopped bodies.ReadFailed))

@@ -7,8 +7,9 @@ ghost use Rattle.hls_connection.specs.Alone.{known_alone};
 
 use crate::act_log::{ActLog, ActNote};
 use crate::keeper::Keeper;
+use hls_api::catchup_query::CatchupQuery;
 use hls_api::encoder_readings::EncoderReadings;
-use hls_api::{Response, live_playlist_response};
+use hls_api::{ProgrammeStart, Response, live_playlist_response, start_programme};
 use hls_catchup::{Job, JobFault, Request};
 use hls_core::snapshot::Snapshot;
 use hls_core::step::step;
@@ -91,6 +92,14 @@ impl Keeper for Alone {
         uris: MediaUris,
     ) -> Result<Response, AllocError> {
         live_playlist_response(self.alloc, state, rendition, uris)
+    }
+
+    fn start_programme(
+        &mut self,
+        state: &Arc<Snapshot>,
+        query: CatchupQuery,
+    ) -> Result<ProgrammeStart, AllocError> {
+        start_programme(self.alloc, state, query)
     }
 
     fn submit(&mut self, event: Event) -> Result<Done, Refusal> {

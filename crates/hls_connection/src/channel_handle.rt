@@ -9,8 +9,9 @@ use crate::events::NoObserver;
 use crate::keeper::Keeper;
 use crate::session::session_on;
 use crate::shared_channel::SharedChannel;
+use hls_api::catchup_query::CatchupQuery;
 use hls_api::encoder_readings::EncoderReadings;
-use hls_api::{PlaylistCache, Response};
+use hls_api::{PlaylistCache, ProgrammeCache, ProgrammeStart, Response};
 use hls_catchup::{Job, JobFault, Request};
 use hls_core::snapshot::Snapshot;
 use hls_core_laws::done::Done;
@@ -38,7 +39,7 @@ pub struct SeenVersion {
 
 /// A thread's handle of a channel: the runtime by which it waits, the allocator, the channel's turn and jobs, and a pass of the turn.
 /// The next look or event sees what other passes submitted meanwhile. Between two calls it holds nothing of the turn or the jobs,
-/// except the texts of short live lists of the snapshot that it looked at for one last.
+/// except the texts of short live lists and the queries for programmes of the snapshots that it looked at for one last.
 #[derive(Drop)]
 pub struct ChannelHandle<'a, T: Wait> {
     /// The runtime by which it waits.
@@ -54,6 +55,7 @@ pub struct ChannelHandle<'a, T: Wait> {
     /// The time at which its user last read the clock, in milliseconds.
     pub now_ms: u64,
     lists: PlaylistCache,
+    programmes: ProgrammeCache,
     /// The last known version of a state that the pass saw; 0 before the first.
     pub seen: u64,
     /// Whether the pass may have seen a later state since: the last event was a repeat or refused, or the last look failed.
@@ -62,6 +64,7 @@ pub struct ChannelHandle<'a, T: Wait> {
     has_read_job: Cell<bool>,
     ghost ours: { pass.turn ≡ channel.turn.now },
     ghost listed: { HasSameListsBefore lists pass.known.seen },
+    ghost started: { HasSameListsBefore programmes pass.known.seen },
     ghost covered: { IsFalse is_unknown → length pass.known.seen.log ≤ seen },
 }
 
@@ -85,6 +88,7 @@ impl<'a, T: Wait> ChannelHandle<'a, T> {
             acts: ActLog::new(),
             now_ms: 0,
             lists: PlaylistCache::new(alloc),
+            programmes: ProgrammeCache::new(alloc),
             seen: 0,
             is_unknown: true,
             has_read_job: Cell::new(false),
@@ -138,6 +142,14 @@ impl<'a, T: Wait> Keeper for ChannelHandle<'a, T> {
         uris: MediaUris,
     ) -> Result<Response, AllocError> {
         self.lists.get_or_render(state, rendition, uris)
+    }
+
+    fn start_programme(
+        &mut self,
+        state: &Arc<Snapshot>,
+        query: CatchupQuery,
+    ) -> Result<ProgrammeStart, AllocError> {
+        self.programmes.start_programme(state, query)
     }
 
     #[tactic(auto, using(hls_api::proofs::Callers::lists_submitted))]

@@ -1,6 +1,9 @@
 //! Handlers: from a request whose body was discarded, and the channel's keeper, to a response.
 
-ghost use Rattle.std.specs.Prelude.{◌≡◌, Some, None, IfOk, true, false};
+ghost use Rattle.std.specs.Prelude.{◌≡◌, ℕ, Some, None, IfOk, true, false};
+ghost use Rattle.hls_catchup.specs.Jobs.Shared.{HasCounted};
+ghost use Rattle.hls_metrics.specs.declared.measured.Measured.{Measured as MeasuredData};
+ghost use Rattle.hls_api.specs.Responses as replies;
 ghost use Rattle.hls_api.specs.Exchanges.{AddsCatchupJob, HandlesCatchup, HandlesProgramme, FinishesRendition, IsForPlayer, IsServedBy, ServesJob, shown_if, shown_to_player};
 ghost use Rattle.hls_api.specs.{Exchanges.IsJobResponse, Acts.ActsExtend};
 ghost use Rattle.hls_connection.specs.Plans.{BeginsProgramme};
@@ -20,7 +23,7 @@ use hls_api::{
     live_master_response, make_request, media_response, method_not_allowed_response,
     metrics_response, path_master_response, query_response, recent_playlist_response,
     removed_response, resolve_query, run_response, segment_response, since_response,
-    start_programme, status_response,
+    status_response,
 };
 use hls_catchup::{Job, JobFault, Request};
 use hls_core::snapshot::Snapshot;
@@ -177,7 +180,7 @@ fn begin_query<K: Keeper>(
 {
     let state = look(keeper, acts)?;
     let alloc = keeper.alloc();
-    let request = match start_programme(alloc, &state, query)? {
+    let request = match keeper.start_programme(&state, query)? {
         ProgrammeStart::Planned(request) => request,
         ProgrammeStart::Refused(response) => return Ok(ProgrammeStep::Respond(response)),
     };
@@ -259,12 +262,17 @@ fn handle_route<K: Keeper>(
             let jobs = keeper.job_count();
             status_response(keeper.alloc(), &state, jobs)
         }
-        Route::Metrics => {
-            let (jobs, measured) = (keeper.job_count(), keeper.measured());
-            metrics_response(keeper.alloc(), &state, jobs, &measured)
-        }
+        Route::Metrics => show_metrics(&*keeper, &state),
         _ => show_player(keeper, context, route, state),
     }
+}
+
+/// Responds with the metrics. What was measured has two kilobytes, for which no other request clears a place.
+fn show_metrics<K: Keeper>(keeper: &K, state: &Arc<Snapshot>) -> Result<Response, AllocError>
+    ensures { IfOk result (λ a. (jobs : ℕ) × HasCounted jobs × ((measured : MeasuredData) × (a ≡ replies.metrics_answer state.now.value jobs measured))) }
+{
+    let (jobs, measured) = (keeper.job_count(), keeper.measured());
+    metrics_response(keeper.alloc(), state, jobs, &measured)
 }
 
 /// What players load: a playlist by paths, an init section, or a segment.

@@ -8,10 +8,12 @@ ghost use Rattle.hls_api.specs.{JobTable.{IsAddResult, IsGetResult}, OtherActors
 ghost use Rattle.hls_jobs.specs.Plans.{HasAddedPlan, HasFoundPlan};
 ghost use Rattle.hls_api.specs.Acts as acts;
 ghost use Rattle.hls_api.specs.Players.{live_list_answer};
+ghost use Rattle.hls_api.specs.Programmes.{StartsProgramme};
 ghost use Rattle.hls_api.specs.Responses as replies;
 
-use hls_api::Response;
+use hls_api::catchup_query::CatchupQuery;
 use hls_api::encoder_readings::EncoderReadings;
+use hls_api::{ProgrammeStart, Response};
 use hls_catchup::{Job, JobFault, Request};
 use hls_core::snapshot::Snapshot;
 use hls_core_laws::done::Done;
@@ -59,6 +61,17 @@ pub trait Keeper {
         requires { state.value ≡ (known self.old).seen }
         ensures known { known self.new ≡ known self.old }
         ensures list { IfOk result (λ a. a ≡ live_list_answer uris state.value rendition) };
+
+    /// Returns what a query for a programme leads to in the state that the keeper saw last: its request if the state has the programme, or
+    /// the response that refuses it.
+    fn start_programme(
+        &mut self,
+        state: &Arc<Snapshot>,
+        query: CatchupQuery,
+    ) -> Result<ProgrammeStart, AllocError>
+        requires { state.now.value ≡ (known self.old).seen }
+        ensures known { known self.new ≡ known self.old }
+        ensures starts { IfOk result (StartsProgramme state.now.value query) };
 
     /// Applies an event to the current state, as one of this keeper. The refusals are those of a step of the core.
     fn submit(&mut self, event: Event) -> Result<Done, Refusal>

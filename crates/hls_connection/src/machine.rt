@@ -1,9 +1,9 @@
 //! The state machine of a connection: its state, the bytes that wait to be sent, and notes for proofs.
 
-ghost use Rattle.std.specs.Prelude.{◌≡◌, ◌⊎◌, ◌<◌, ◌≤◌, ◌↔◌, ℕ, List, ◌++◌, length, IfNone, IfSome, IfOk, IsTrue, IsFalse, OnErr};
-ghost use Rattle.hls_api.specs.Acts.{Knowledge};
+ghost use Rattle.std.specs.Prelude.{◌≡◌, ◌⊎◌, ◌<◌, ◌≤◌, ◌↔◌, ℕ, List, [], ◌++◌, length, IfNone, IfSome, IfOk, IsTrue, IsFalse, OnErr, Option, false, true};
+ghost use Rattle.hls_api.specs.{Acts.Knowledge, OtherActors.OtherActors};
 ghost use Rattle.hls_connection.specs.Traces.{Advances, IsConsistentTrace, KeepsWaits, IsFresh, IsSuitedTo, TraceIsIdleOrBlocked, TraceWaits, WantsMore, history_of, idle_machine, trace_after_read, trace_after_send, trace_after_step, trace_at, trace_steps_left};
-ghost use Rattle.hls_connection.specs.{Histories.{HasRead, FailsToRead}, States.{IsNotOverIn, read_failure_event_in}, Waits.waits_in};
+ghost use Rattle.hls_connection.specs.{Histories.{HasRead, FailsToRead}, States.{IsNotOverIn, is_receiving, read_failure_event_in}, Waits.waits_in};
 ghost use Rattle.hls_connection.specs.declared.state.ConnectionState.TheVariants as states;
 
 use crate::act_log::ActLog;
@@ -19,6 +19,7 @@ use hls_api::route::ServedChannel;
 use hls_http::{BodyEnd, InputBuffer, SessionEnd};
 use hls_io::SendBuffer;
 use http_server::Log;
+use std::alloc::Global;
 use std::io::Read;
 use std::{io, mem};
 
@@ -133,8 +134,28 @@ impl ConnectionMachine {
         step.more
     }
 
-    /// Makes one step if nothing waits to be sent. Returns whether there may be more to do at once.
-    fn step<K: Keeper, O: Observer>(
+    /// Whether it is between two requests, and nothing of the next one was read.
+    fn awaits_head(&self, input: &InputBuffer) -> bool
+        ensures { result ≡ true → (self.now.state ≡ states.Head) × (self.now.ended ≡ false) × (input.now.unread ≡ []) }
+    {
+        if self.ended {
+            return false;
+        }
+        match self.state {
+            ConnectionState::Head => input.unread().is_empty(),
+            _ => false,
+        }
+    }
+
+    /// Whether it receives a body.
+    fn is_receiving(&self) -> bool
+        ensures { result ≡ is_receiving self.now.state }
+    {
+        matches!(self.state, ConnectionState::Receive(_))
+    }
+
+    /// Receives some of a body, where nothing waits to be sent. Returns whether there may be more to do at once.
+    fn step_body<K: Keeper, O: Observer>(
         &mut self,
         input: &mut InputBuffer,
         keeper: &mut K,
@@ -142,6 +163,8 @@ impl ConnectionMachine {
         observer: &O,
     ) -> bool
         requires suits { IsSuitedTo (K.known keeper.old) (trace_at self.old input.old.unread) }
+        requires empty { length self.old.output ≡ 0 }
+        requires receives { is_receiving self.old.state ≡ true }
         ensures advances { Advances K.other_actors (K.known keeper.old) (trace_at self.old input.old.unread)
             (K.known keeper.new) (trace_at self.new input.new.unread) }
         ensures room { input.new.room ≡ input.old.room }
@@ -149,9 +172,6 @@ impl ConnectionMachine {
         ensures lowers { IsTrue result → trace_steps_left (trace_at self.new input.new.unread) < trace_steps_left (trace_at self.old input.old.unread) }
         ensures waits { KeepsWaits now (trace_at self.old input.old.unread) (trace_at self.new input.new.unread) result }
     {
-        if !self.output.is_empty() {
-            return false;
-        }
         let alloc = keeper.alloc();
         // a body is received in place: moving it out and back would cost more than most of its steps do
         if let ConnectionState::Receive(receiving) = &mut self.state {
@@ -172,15 +192,89 @@ impl ConnectionMachine {
                 }
             }
         }
+        unreachable!()
+    }
+
+    /// Answers a request whose response waits, where nothing waits to be sent. Returns whether there may be more to do at once.
+    fn step_wait<K: Keeper, O: Observer>(
+        &mut self,
+        input: &InputBuffer,
+        keeper: &K,
+        now: Option<u64>,
+        observer: &O,
+    ) -> bool
+        requires suits { IsSuitedTo (K.known keeper.now) (trace_at self.old input.now.unread) }
+        requires empty { length self.old.output ≡ 0 }
+        requires waits { waits_in self.old.state ≡ true }
+        ensures advances { Advances K.other_actors (K.known keeper.now) (trace_at self.old input.now.unread)
+            (K.known keeper.now) (trace_at self.new input.now.unread) }
+        ensures idle_or_blocked { IsFalse result → TraceIsIdleOrBlocked (trace_at self.new input.now.unread) ⊎ TraceWaits (trace_at self.new input.now.unread) }
+        ensures lowers { IsTrue result → trace_steps_left (trace_at self.new input.now.unread) < trace_steps_left (trace_at self.old input.now.unread) }
+        ensures waits { KeepsWaits now (trace_at self.old input.now.unread) (trace_at self.new input.now.unread) result }
+    {
         if let ConnectionState::Wait(waiting) = &mut self.state {
-            let Some(step) = step_waiting(waiting, now, &*keeper, observer) else {
+            let Some(step) = step_waiting(waiting, now, keeper, observer) else {
                 return false;
             };
             return self.apply(step);
         }
+        unreachable!()
+    }
+
+    /// Makes one step from a state in which no body is received and no response waits, where nothing waits to be sent. Returns whether
+    /// there may be more to do at once.
+    fn step_other<O: Observer>(
+        &mut self,
+        input: &mut InputBuffer,
+        alloc: Global,
+        observer: &O,
+    ) -> bool
+        requires empty { length self.old.output ≡ 0 }
+        requires receives { is_receiving self.old.state ≡ false }
+        requires waits { waits_in self.old.state ≡ false }
+        ensures advances { (m : OtherActors) (known : Knowledge) → IsSuitedTo known (trace_at self.old input.old.unread) → Advances m known (trace_at self.old input.old.unread) known (trace_at self.new input.new.unread) }
+        ensures room { input.new.room ≡ input.old.room }
+        ensures idle_or_blocked { IsFalse result → TraceIsIdleOrBlocked (trace_at self.new input.new.unread) ⊎ TraceWaits (trace_at self.new input.new.unread) }
+        ensures lowers { IsTrue result → trace_steps_left (trace_at self.new input.new.unread) < trace_steps_left (trace_at self.old input.old.unread) }
+        ensures waits { (now : Option ℕ) → KeepsWaits now (trace_at self.old input.old.unread) (trace_at self.new input.new.unread) result }
+    {
         let state = mem::replace(&mut self.state, ConnectionState::Head);
         let step = step_state(state, self.channel, input, self.ended, alloc, observer);
         self.apply(step)
+    }
+
+    /// Makes one step if nothing waits to be sent. Returns whether there may be more to do at once.
+    ///
+    /// Each kind of step has a function of its own: a function clears the places for all its values when it is called, and a state has
+    /// half a kilobyte.
+    fn step<K: Keeper, O: Observer>(
+        &mut self,
+        input: &mut InputBuffer,
+        keeper: &mut K,
+        now: Option<u64>,
+        observer: &O,
+    ) -> bool
+        requires suits { IsSuitedTo (K.known keeper.old) (trace_at self.old input.old.unread) }
+        ensures advances { Advances K.other_actors (K.known keeper.old) (trace_at self.old input.old.unread)
+            (K.known keeper.new) (trace_at self.new input.new.unread) }
+        ensures room { input.new.room ≡ input.old.room }
+        ensures idle_or_blocked { IsFalse result → TraceIsIdleOrBlocked (trace_at self.new input.new.unread) ⊎ TraceWaits (trace_at self.new input.new.unread) }
+        ensures lowers { IsTrue result → trace_steps_left (trace_at self.new input.new.unread) < trace_steps_left (trace_at self.old input.old.unread) }
+        ensures waits { KeepsWaits now (trace_at self.old input.old.unread) (trace_at self.new input.new.unread) result }
+    {
+        if !self.output.is_empty() {
+            return false;
+        }
+        if self.awaits_head(input) {
+            return false;
+        }
+        if self.is_receiving() {
+            return self.step_body(input, keeper, now, observer);
+        }
+        if self.holds_response() {
+            return self.step_wait(&*input, &*keeper, now, observer);
+        }
+        self.step_other(input, keeper.alloc(), observer)
     }
 
     /// Makes steps until it is idle or blocked, its response waits, or other connections have their turn. Returns whether there may be more

@@ -1,8 +1,7 @@
 -- The texts of a reply's playlists.
 use Rattle.std.proofs.Common.{◌≡◌, ◌∙◌, ◌⊎◌, ◌<◌, ◌≤◌, ℕ, zero, suc, get_or, ⊎_elim, List, [], ◌∷◌, ◌++◌, length, map, Option, Some, None, arith, inl, inr, refl, sym, ap, subst, Vec, Global}
 use Rattle.std.specs.Prelude.{option_map, slice_get}
-use Rattle.std.proofs.lemmas.List.{length-map, map-append}
-use Rattle.std.proofs.lemmas.Option.{slice_get_cases, slice_get_past, slice_get_read}
+use Rattle.std.proofs.lemmas.Option.{slice_get_cases, slice_get_past}
 use Rattle.hls_m3u8.specs.declared.playlist.MediaPlaylist.{MediaPlaylist}
 use Rattle.hls_m3u8.specs.Playlist.{playlist_of}
 use Rattle.hls_m3u8.specs.Lines.{media_text}
@@ -17,8 +16,8 @@ abbrev pub items_of : Vec ℕ Global → List ℕ
 items_of text = text.items
 
 -- each of these texts is that of the playlist of its number
-abbrev pub AreListsSoFar : ReplyData → List (Vec ℕ Global) → Type 0
-AreListsSoFar reply texts = (r : ℕ) (text : List ℕ) → slice_get (map (λ t. t.items) texts) r ≡ Some text → programme_list_file reply r ≡ Some text
+abbrev pub AreListsSoFar : ReplyData → List (List ℕ) → Type 0
+AreListsSoFar reply texts = (r : ℕ) (text : List ℕ) → slice_get texts r ≡ Some text → programme_list_file reply r ≡ Some text
 
 last-at : {A : Type 0} (xs : List A) (y : A) (k : ℕ) (x : A) → slice_get (xs ++ y ∷ []) k ≡ Some x → (slice_get xs k ≡ Some x) ⊎ ((k ≡ length xs) × (y ≡ x))
 last-at [] y zero x at = inr (refl, cc)
@@ -27,16 +26,12 @@ last-at (z ∷ xs) y zero x at = inl at
 last-at (z ∷ xs) y (suc k) x at = elim (last-at xs y k x at) [ inl h ↦ inl h | inr h ↦ inr (ap suc h.0, h.1) ]
 
 -- one more
-pub one_more : (reply : ReplyData) (texts : List (Vec ℕ Global)) (text : Vec ℕ Global) → AreListsSoFar reply texts → programme_list_file reply (length texts) ≡ Some text.items
+pub one_more : (reply : ReplyData) (texts : List (List ℕ)) (text : List ℕ) → AreListsSoFar reply texts → programme_list_file reply (length texts) ≡ Some text
     → AreListsSoFar reply (texts ++ text ∷ [])
 one_more reply texts text before is r found at =
-    let apart = map-append (λ (t : Vec ℕ Global). t.items) texts (text ∷ []) in
-    let there : slice_get (map (λ (t : Vec ℕ Global). t.items) texts ++ text.items ∷ []) r ≡ Some found = ap (λ ts. slice_get ts r) (sym apart) ∙ at in
-    elim (last-at (map (λ (t : Vec ℕ Global). t.items) texts) text.items r found there) [
+    elim (last-at texts text r found at) [
       | inl old ↦ before r found old
-      | inr new ↦
-          (let number : r ≡ length texts = new.0 ∙ length-map texts (λ (t : Vec ℕ Global). t.items) in
-          ap (programme_list_file reply) number ∙ is ∙ ap (λ (x : List ℕ). Some x) new.1)
+      | inr new ↦ ap (programme_list_file reply) new.0 ∙ is ∙ ap (λ (x : List ℕ). Some x) new.1
     ]
 
 -- a reply has no more playlists than that
@@ -59,6 +54,10 @@ some_below reply r small none = some_in reply.state reply.cut_result r small non
 pub none_past : (reply : ReplyData) (r : ℕ) → list_count reply ≤ r → programme_list_file reply r ≡ None
 none_past reply r past = none_in reply.state reply.cut_result r past
 
--- what was read at an index of a list
-pub read_there : {A : Type 0} (xs read : List A) (at : ℕ) (x : A) → read ≡ xs → at < length read → x ≡ get_or read at x → slice_get xs at ≡ Some x
-read_there xs read at x same within is = subst (λ (ys : List _). slice_get ys at ≡ Some x) same (slice_get_read read (length read) at x refl within is)
+-- each number has its text
+pub lists_at : (reply : ReplyData) (lists : List (List ℕ)) (r : ℕ) → AreLists reply lists → slice_get lists r ≡ programme_list_file reply r
+lists_at reply lists r are =
+    ⊎_elim
+    (λ (found : (x : List ℕ) × (r < length lists) × (slice_get lists r ≡ Some x) × (get_or lists r x ≡ x)). found.2 ∙ sym (are.each r found.0 found.2))
+    (λ (past : (length lists ≤ r) × (slice_get lists r ≡ None)). past.1 ∙ sym (none_past reply r (omega (arith, past.0, are.count))))
+    (slice_get_cases lists r).1

@@ -20,8 +20,8 @@ pub record AreLists (reply : ReplyData) (lists : List (List ℕ)) : Type 0 where
 pub record AreTextsOf (t : Inside) (reply : ReplyData) : Type 0 where
   pub request_is : t.request ≡ reply.request
   pub right : IsRightReply reply.state reply.request reply
-  pub master : option_map (λ text. text.items) t.master ≡ master_file reply
-  pub lists : AreLists reply (map (λ text. text.items) t.lists.items)
+  pub master : t.master ≡ master_file reply
+  pub lists : AreLists reply t.lists.items
   pub certificate : t.certificate ≡ certificate_file reply
 
 abbrev pub AreTexts : Inside → Option ReplyData → Type 0

@@ -124,7 +124,8 @@ fn use_texts(
 ) -> Option<Result<Arc<ProgrammeTexts>, AllocError>>
     ensures { IfSome result (λ found. IfOk found (λ texts. IsReplyFor request texts.value)) }
 {
-    let at = ready.iter().position(|texts| texts.is_for(request))?;
+    // those that many clients load are at the end
+    let at = ready.iter().rposition(|texts| texts.is_for(request))?;
     let texts = ready.remove(at);
     let shared = Arc::try_clone(&texts);
     let is_right = texts.is_for(request);

@@ -1,6 +1,6 @@
 //! The texts of a programme by its address: a planner makes them once, and they are served until they are dropped.
 
-ghost use Rattle.std.specs.Prelude.{◌≡◌, IfOk, IfSome, IsTrue, Some, map, option_map};
+ghost use Rattle.std.specs.Prelude.{◌≡◌, IfOk, IfSome, IsTrue, Some, option_map, slice_get};
 ghost use Rattle.std.specs.Option.{option_copied};
 ghost use Rattle.hls_catchup.specs.Jobs.Files.{certificate_file};
 ghost use Rattle.hls_catchup.specs.Replies.{ReplyData};
@@ -25,8 +25,8 @@ use std::sync::Arc;
 #[derive(Drop)]
 pub struct ProgrammeTexts {
     request: Request,
-    master: Option<Vec<u8>>,
-    lists: Vec<Vec<u8>>,
+    master: Option<Bytes>,
+    lists: Vec<Bytes>,
     certificate: Bytes,
     /// The reply, only for proofs.
     reply: Log<Arc<Reply>, ()>,
@@ -44,12 +44,22 @@ impl Model for ProgrammeTexts {
     ghost invariant = { λ t. AreTexts t (noted_reply t.reply.items) };
 }
 
+/// Makes a text that can be shared.
+fn share_text(text: Option<Vec<u8>>) -> Result<Option<Bytes>, AllocError>
+    ensures { IfOk result (λ shared. shared ≡ option_map (λ t. t.items) text) }
+{
+    match text {
+        Some(text) => Ok(Some(Bytes::from_vec(text)?)),
+        None => Ok(None),
+    }
+}
+
 /// Returns the text of the master playlist; `None` if the programme has no plan.
-fn master_text(alloc: Global, reply: &Reply) -> Result<Option<Vec<u8>>, AllocError>
-    ensures { IfOk result (λ text. option_map (λ t. t.items) text ≡ spec.master_file reply.now) }
+fn master_text(alloc: Global, reply: &Reply) -> Result<Option<Bytes>, AllocError>
+    ensures { IfOk result (λ text. text ≡ spec.master_file reply.now) }
 {
     match reply.cut_result() {
-        CutResult::Cut { .. } => players_master(alloc, reply.snapshot(), false),
+        CutResult::Cut { .. } => share_text(players_master(alloc, reply.snapshot(), false)?),
         CutResult::NoCut { .. } => Ok(None),
     }
 }
@@ -65,15 +75,16 @@ fn list_count(reply: &Reply) -> usize
 }
 
 /// Returns the texts of all playlists.
-fn list_texts(alloc: Global, reply: &Reply) -> Result<Vec<Vec<u8>>, AllocError>
-    ensures { IfOk result (λ texts. AreLists reply.now (map (λ t. t.items) texts.items)) }
+fn list_texts(alloc: Global, reply: &Reply) -> Result<Vec<Bytes>, AllocError>
+    ensures { IfOk result (λ texts. AreLists reply.now texts.items) }
 {
     let mut texts = Vec::new(alloc);
     for rendition in 0..list_count(reply) {
         let Some(text) = programme_list_text(alloc, reply, rendition)? else {
             unreachable!()
         };
-        texts.push(text)?;
+        let shared = Bytes::from_vec(text)?;
+        texts.push(shared)?;
     }
     Ok(texts)
 }
@@ -84,6 +95,13 @@ fn certificate_text(alloc: Global, reply: &Arc<Reply>) -> Result<Bytes, AllocErr
 {
     let text = CertificateWriter::new(alloc, Arc::try_clone(reply)?)?.finish()?;
     Ok(Bytes::from_vec(text)?)
+}
+
+/// Returns the text of a number.
+fn get_text(texts: &[Bytes], number: usize) -> Option<&Bytes>
+    ensures { option_copied result ≡ slice_get texts.now number }
+{
+    texts.get(number)
 }
 
 impl ProgrammeTexts {
@@ -114,23 +132,17 @@ impl ProgrammeTexts {
     }
 
     /// Returns the text of the master playlist; `None` if the programme has no plan.
-    pub fn master(&self) -> Option<&[u8]>
+    pub fn master(&self) -> Option<&Bytes>
         ensures { (reply : ReplyData) → self.now ≡ Some reply → option_copied result ≡ spec.master_file reply }
     {
-        match &self.master {
-            Some(text) => Some(text.as_slice()),
-            None => None,
-        }
+        self.master.as_ref()
     }
 
     /// Returns the text of a rendition's playlist; `None` if the programme has no plan, or there is no such rendition.
-    pub fn list(&self, rendition: usize) -> Option<&[u8]>
+    pub fn list(&self, rendition: usize) -> Option<&Bytes>
         ensures { (reply : ReplyData) → self.now ≡ Some reply → option_copied result ≡ spec.programme_list_file reply rendition }
     {
-        match self.lists.get(rendition) {
-            Some(text) => Some(text.as_slice()),
-            None => None,
-        }
+        get_text(&self.lists, rendition)
     }
 
     /// Returns the text of the certificate, which may be shared: it can have some megabytes.

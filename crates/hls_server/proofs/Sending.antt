@@ -1,7 +1,7 @@
 -- The threads of a server share what its context holds. The table of jobs is among it, with texts of programmes, which hold a log. A log
 -- may be shared though its crate doesn't say so, and the search doesn't look as deep as that table, so all is proved by its parts.
 use denote.RattleType.{RattleType}
-use denote.Param.Send.{AllSend, AllSync, IsSend, IsSync, recorded_send, recorded_sync, sendable, shr_send, shr_sync, struct_send, struct_sync, whole-keyless}
+use denote.Param.Send.{AllSend, AllSync, IsSend, IsSync, recorded_send, recorded_sync, sendable, shr_send, shr_sync, struct_send, struct_sync, view_sync, whole-keyless}
 use denote.Ref.{NamedLft}
 use denote.Struct.Tuple.{TupleAt, type_at}
 use mir.Syntax.{Sym}
@@ -18,6 +18,7 @@ use Rattle.hls_jobs.specs.contracts.shared.Jobs as jobs
 use Rattle.hls_jobs.specs.contracts.shared.JobsInner as inner
 use Rattle.hls_jobs.specs.contracts.plans.PlanTable as plans
 use Rattle.hls_jobs.specs.contracts.programme_texts.ProgrammeTexts as texts
+use Rattle.hls_jobs.specs.contracts.programme_texts.ProgrammeTexts.TheInside as parts
 use Rattle.hls_jobs.proofs.last_uses.LastUse.TheSendSync as last_use
 use Rattle.hls_jobs.proofs.table.JobTable.TheSendSync as table
 use Rattle.hls_jobs.proofs.plans.PlanRow.TheSendSync as plan_row
@@ -55,7 +56,18 @@ log_sync : (A B : RattleType) → IsSend (log.the_row A B) → IsSync (log.the_r
 log_sync A B s = record { shared = λ d b o κ q. whole-keyless _ _ s.owned q d b o }
 
 texts_sync : IsSync texts.the_row
-texts_sync = search (sendable, crosses, log_sync, log_sends.the_send, bytes_sends.the_sync) depth 30
+texts_sync =
+    view_sync _ _ _ _ _
+    (declared_sync parts.the_type (
+      search (sendable, crosses) depth 30,
+      (
+        search (sendable, crosses, bytes_sends.the_sync) depth 30,
+        (
+          search (sendable, crosses, bytes_sends.the_sync) depth 30,
+          (search (sendable, crosses, bytes_sends.the_sync) depth 30, (search (sendable, crosses, log_sync, log_sends.the_send) depth 30, tt)),
+        ),
+      ),
+    ))
 
 plans_send : IsSend (plans.the_field).row
 plans_send = search (sendable, crosses, plan_row.the_send, texts_sends.the_send, texts_sync) depth 30

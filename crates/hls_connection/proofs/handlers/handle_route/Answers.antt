@@ -2,7 +2,7 @@ use Rattle.std.proofs.Common.{◌∙◌, Some, ap, rules, subst, sym}
 use Rattle.hls_api.specs.Acts.{ActsExtend, Knowledge}
 use Rattle.hls_api.specs.Exchanges.{params_of}
 use Rattle.hls_api.specs.{Queries.query_in, Routes.query_of}
-use Rattle.hls_connection.proofs.PlayerLaws.{responds_to_player}
+use Rattle.hls_connection.proofs.PlayerLaws.{responds_to_player, responds_with_metrics}
 use Rattle.hls_connection.proofs.handlers.handle_route.Goals as goal
 
 pub returns-in-Finish-clause-answers : goal.returns-in-Finish-clause-answers
@@ -19,6 +19,11 @@ returns-in-Media-clause-answers g c = λ channel h context there.
 pub returns-in-Programme-clause-answers : goal.returns-in-Programme-clause-answers
 returns-in-Programme-clause-answers g c = λ channel h context there.
     rw c.in-Programme.is (c.show_programme.ensures.answers _ (rw (there ∙ ap Some c.in-Programme.is) at context.query))
+
+pub returns-in-Metrics-clause-answers : goal.returns-in-Metrics-clause-answers
+returns-in-Metrics-clause-answers g c = λ channel h context there.
+    rw c.in-Metrics.is
+    (responds_with_metrics (params_of channel h) c.args.acts.now c.look.new.acts c.in_ok-state.state.value c.show_metrics.result c.in_ok-state.ensures.looks c.show_metrics.ensures)
 
 pub returns-in_default-route : goal.returns-in_default-route
 returns-in_default-route g c = record {

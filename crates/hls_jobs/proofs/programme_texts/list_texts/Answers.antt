@@ -1,6 +1,5 @@
-use Rattle.std.proofs.Common.{◌∙◌, ◌∷◌, [], arith, ap, sym, length-append}
+use Rattle.std.proofs.Common.{◌∙◌, ◌∷◌, [], Some, arith, ap, sym, length-append}
 use Rattle.std.specs.Prelude.{option_map}
-use Rattle.std.proofs.lemmas.List.{length-map}
 use Rattle.hls_jobs.specs.Programmes.{programme_list_file}
 use Rattle.hls_jobs.proofs.ListTexts.{items_of, one_more, some_below}
 use Rattle.hls_jobs.proofs.programme_texts.list_texts.Goals as goal
@@ -11,15 +10,16 @@ unreachable-requires c =
 
 pub loop-rendition-preserved : goal.loop-rendition-preserved
 loop-rendition-preserved c =
-    let long = length-append c.loop-rendition.texts.items (c.in-Some.text ∷ []) in
+    let shared = c.in_ok-shared.shared in
+    let long = length-append c.loop-rendition.texts.items (shared ∷ []) in
     rw c.in_ok-push.ensures.items (record {
       count = omega (arith, c.loop-rendition.invariant.count, long);
-      each = one_more c.args.reply.now c.loop-rendition.texts.items c.in-Some.text c.loop-rendition.invariant.each
-          (ap (programme_list_file c.args.reply.now) c.loop-rendition.invariant.count ∙ sym c.in_ok-text.ensures ∙ ap (option_map items_of) c.in-Some.is);
+      each = one_more c.args.reply.now c.loop-rendition.texts.items shared c.loop-rendition.invariant.each
+          (ap (programme_list_file c.args.reply.now) c.loop-rendition.invariant.count ∙ sym c.in_ok-text.ensures ∙ ap (option_map items_of) c.in-Some.is ∙ ap Some (sym c.in_ok-shared.ensures.ok));
     })
 
 pub returns : goal.returns
 returns c = record {
-  count = omega (arith, length-map c.loop-rendition.texts.items items_of, c.loop-rendition.invariant.count, c.loop-rendition.auto.rendition-end, c.list_count-rendition-end.ensures);
+  count = omega (arith, c.loop-rendition.invariant.count, c.loop-rendition.auto.rendition-end, c.list_count-rendition-end.ensures);
   each = c.loop-rendition.invariant.each;
 }
