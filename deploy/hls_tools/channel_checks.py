@@ -168,10 +168,12 @@ def warnings_of(path: str, folder: str = FOLDER, memory: int | None = None) -> l
     if listens_at(values) and url.startswith("srt") and "passphrase=" not in url and not re.match(r"srt://(127\.|localhost)", url):
         found.append("INPUT: whoever reaches this port may send: add &passphrase=.. (10 to 79 characters)")
     memory = os.sysconf("SC_PHYS_PAGES") * os.sysconf("SC_PAGE_SIZE") if memory is None else memory
-    total = in_bytes(need_of(values)[1])
-    for other in others(path, folder).values():
+    channels = [values, *others(path, folder).values()]
+    # nginx's caches (docs/EDGE.md)
+    total = min(1 << 30, memory // 4) if any(one.get("EDGE") for one in channels) else 0
+    for one in channels:
         with contextlib.suppress(Wrong):
-            total += in_bytes(need_of(other)[1])
+            total += in_bytes(need_of(one)[1])
     if total > memory:
-        found.append(f"all channels together may need {total >> 20} MiB, and the machine has {memory >> 20}: shorten --keep, or spread them over machines")
+        found.append(f"all channels and the edge's caches together may need {total >> 20} MiB, and the machine has {memory >> 20}: shorten --keep, or spread them over machines")
     return found
