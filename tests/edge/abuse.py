@@ -327,7 +327,7 @@ def replies(site):
 def both_protocols(site):
     """At a socket for IPv4 and IPv6, viewers by IPv4 have the limits of their own addresses."""
     edge, port, path = site.edge, free_port(), os.path.join(site.edge.folder, "sites-enabled", "both")
-    write(path, f"server {{ listen [::]:{port} ipv6only=off; server_name localhost; include snippets/hls_server.conf; location / {{ return 404; }} }}\n")
+    write(path, f"server {{ listen [::]:{port} ipv6only=off; server_name localhost; include {site.edge.folder}/nginx/hls_server.conf; location / {{ return 404; }} }}\n")
     check("nginx has a socket for both", edge.edge().returncode == 0)
     requests = [request("/hls/0.m3u8")] * 900 + [request("/watch.html", last=True)]
     greedy, other = flood(edge, requests, "127.9.82.1", port)[0], flood(edge, requests[-20:], "127.9.82.2", port)[0]

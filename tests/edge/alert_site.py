@@ -155,8 +155,11 @@ class Site:
 
     def target(self, name, *ports):
         """A channel's origins, as `hls_channel add` writes them for Prometheus."""
-        with open(os.path.join(self.targets, f"{name}.json"), "w", encoding="ascii") as file:
+        path = os.path.join(self.targets, f"{name}.json")
+        # Prometheus reads it as soon as it is there
+        with open(path + ".new", "w", encoding="ascii") as file:
             json.dump([{"targets": [f"127.0.0.1:{port}" for port in ports], "labels": {"channel": name}}], file)
+        os.replace(path + ".new", path)
 
     def text_file(self, name, text):
         """Metrics that the node exporter reads from a file."""

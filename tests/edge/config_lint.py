@@ -137,4 +137,4 @@ def of_files(folder):
         with open(os.path.join(folder, name), encoding="utf-8") as file:
             return file.read()
     return [f"{name}: {fault}" for name in ("hls_origin.conf", "hls_site.conf")
-            for fault in faults(read(name), lambda included: read(os.path.basename(included)) if included.startswith("snippets/") else None)]
+            for fault in faults(read(name), lambda included: read(os.path.basename(included)) if included.startswith("/usr/share/hls_origin/nginx/") else None)]

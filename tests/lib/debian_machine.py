@@ -14,7 +14,8 @@ class Machine:
 
     def __init__(self, root):
         self.root = root
-        self.nspawn = subprocess.Popen(["systemd-nspawn", "--quiet", "--boot", "-D", root, "--private-network", "--register=no", "--keep-unit"],
+        # a machine has the call that keep_sockets makes; systemd-nspawn refuses it
+        self.nspawn = subprocess.Popen(["systemd-nspawn", "--quiet", "--boot", "-D", root, "--private-network", "--register=no", "--keep-unit", "--system-call-filter=pidfd_getfd"],
                                        stdin=subprocess.DEVNULL, stdout=subprocess.DEVNULL, stderr=subprocess.DEVNULL)
         self.leader, self.senders = None, {}
         for _ in range(100):

@@ -73,7 +73,7 @@ class Edge:
         self.folder, self.process = os.path.join(folder, "edge"), None
         self.files = os.path.join(self.folder, "hls_origin")
         self.port, self.open, self.plain, self.inner = (free_port() for _ in range(4))
-        for name in ("conf.d", "sites-enabled", "snippets", "cache", "hls_origin", "pages"):
+        for name in ("conf.d", "sites-enabled", "nginx", "cache", "hls_origin", "pages"):
             os.makedirs(os.path.join(self.folder, name))
         for path in (folder, self.folder):
             os.chmod(path, 0o755)
@@ -82,7 +82,7 @@ class Edge:
                         "-keyout", os.path.join(self.folder, "edge.key"), "-out", self.certificate, "-days", "2", "-subj", "/CN=localhost",
                         "-addext", "subjectAltName=DNS:localhost,DNS:sport.localhost,IP:127.0.0.1"], check=True, stderr=subprocess.DEVNULL)
         self.set_channels(channels)
-        self.copy("conf.d", "hls_origin.conf", changes)
+        self.copy("conf.d", "hls_origin.conf", [one for one in changes if one[0] in self.text("hls_origin.conf")])
         self.copy("sites-enabled", "hls_site.conf", [
             ("listen 80;", f"listen 127.0.0.1:{self.plain};"), ("listen [::]:80;", f"listen [::1]:{self.plain};"),
             # without TLS too, for players that don't take a certificate of today
@@ -91,7 +91,8 @@ class Edge:
             ("/etc/nginx/edge.crt", self.certificate), ("/etc/nginx/edge.key", f"{self.folder}/edge.key"), *site_changes])
         for name in os.listdir(os.path.join(ROOT, "edge")):
             if re.fullmatch(r"hls_(server|fields|viewers|operators|pages)\.conf", name):
-                self.copy("snippets", name)
+                self.copy("nginx", name)
+        self.copy("nginx", "hls_http.conf", [one for one in changes if one[0] not in self.text("hls_origin.conf")])
         write(os.path.join(self.folder, "sites-enabled", "other"), more)
         self.conf = os.path.join(self.folder, "nginx.conf")
         write(self.conf, NGINX.format(folder=self.folder, workers=workers, user="www-data" if os.getuid() == 0 else "nobody",
@@ -106,15 +107,19 @@ class Edge:
         self.start()
         self.url, self.open_url = f"https://localhost:{self.port}", f"http://127.0.0.1:{self.open}"
 
+    def text(self, name):
+        """A file of edge/."""
+        with open(os.path.join(ROOT, "edge", name), encoding="utf-8") as file:
+            return file.read()
+
     def copy(self, to, name, changes=()):
         """A file of edge/ with this edge's addresses and paths; each change must have something to change."""
-        with open(os.path.join(ROOT, "edge", name), encoding="utf-8") as file:
-            text = file.read()
+        text = self.text(name)
         for old, new in changes:
             if old not in text:
                 raise SystemExit(f"edge/{name} has no {old}")
             text = text.replace(old, new)
-        for old, new in [("/etc/nginx/hls_origin", self.files), ("/usr/share/hls_origin/pages", os.path.join(self.folder, "pages")), ("/var/lib/nginx", f"{self.folder}/cache"),
+        for old, new in [("/etc/nginx/hls_origin", self.files), ("/usr/share/hls_origin", self.folder), ("/var/lib/nginx/hls", f"{self.folder}/cache"),
                          ("/var/log/nginx", self.folder), ("127.0.0.1:8079", f"127.0.0.1:{self.inner}")]:
             text = text.replace(old, new)
         write(os.path.join(self.folder, to, name), text)

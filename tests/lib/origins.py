@@ -107,15 +107,16 @@ def part(values, share):
 
 # Real encoders and a real browser
 
-def push_real(port, seconds, size="320x180", more=(), paths=("/ingest/0", "/ingest/1"), url=None):
-    """ffmpeg in real time: videos in groups of two seconds, and an audio, which has the last path; each by its own PUT."""
+def push_real(port, seconds, size="320x180", more=(), paths=("/ingest/0", "/ingest/1"), url=None, flags=""):
+    """ffmpeg in real time: videos in groups of two seconds, and an audio, which has the last path; each by its own PUT. Without
+    `+frag_discont` among further flags its times begin at 0, whatever -output_ts_offset says."""
     url = url or f"http://127.0.0.1:{port}"
     clip = ["-re", "-f", "lavfi", "-i", f"testsrc=s={size}:r=25", "-re", "-f", "lavfi", "-i", "sine=f=440:r=48000"]
     pushed = []
     videos = [(harness.VIDEO, "+cmaf+frag_keyframe+skip_trailer", path) for path in paths[:-1]]
-    for kind, flags, path in [*videos, (harness.AUDIO, "+cmaf+skip_trailer", paths[-1])]:
+    for kind, kind_flags, path in [*videos, (harness.AUDIO, "+cmaf+skip_trailer", paths[-1])]:
         pushed.append(subprocess.Popen(
-            ["ffmpeg", "-v", "error", *clip, *kind, "-t", str(seconds), *more, "-f", "mp4", "-movflags", flags,
+            ["ffmpeg", "-v", "error", *clip, *kind, "-t", str(seconds), *more, "-f", "mp4", "-movflags", kind_flags + flags,
              *(["-frag_duration", "200000"] if kind is harness.AUDIO else []), "-method", "PUT", url + path],
             stdin=subprocess.DEVNULL, stderr=subprocess.DEVNULL))
     return pushed
