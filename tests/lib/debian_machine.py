@@ -110,7 +110,7 @@ def wait(seconds, enough):
 
 
 def make(program, *words, **more):
-    """deploy/package with these words."""
+    """deploy/package with these arguments."""
     return subprocess.run([*more.pop("before", []), "bash", os.path.join(ROOT, "deploy", "package"), *words],
                           env={**os.environ, "HLS_ORIGIN": os.path.abspath(program)}, capture_output=True, text=True, **more)
 
