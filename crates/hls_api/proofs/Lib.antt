@@ -6,6 +6,7 @@ mod NamedSpans
 mod PathAnswers
 mod Acting
 mod Examples
+mod GapSteps
 mod JumpSteps
 mod Linking
 mod Requests

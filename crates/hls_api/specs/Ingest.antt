@@ -1,6 +1,6 @@
 -- Ingesting an encoder's body: its parts become events, one after the other. What it leads to depends on its whole content: all
 -- parts, or those of the shortest prefix that shows a refusal.
-use Rattle.std.specs.Prelude.{◌≡◌, ◌≢◌, ◌⊎◌, ℕ, nat_eq, ◌+◌, ◌<◌, min, cond, Bool, true, false, not, List, [], ◌∷◌, ◌++◌, length, take, Option, Some, None, option_map, Result, Ok, Err, codes}
+use Rattle.std.specs.Prelude.{◌≡◌, ◌≢◌, ◌⊎◌, ℕ, nat_eq, ◌+◌, ◌<◌, min, cond, Bool, true, false, not, List, [], ◌∷◌, ◌++◌, length, take, Option, Some, None, option_map, Result, Ok, Err, codes, slice_index_or}
 use Rattle.std.specs.Fmt.{decimal}
 use Rattle.hls_boxes.specs.declared.part.Part.{Part}
 use Rattle.hls_core.specs.{declared.feed_fault.{StreamFault.TheVariants.{Boxes, Media, Core, AheadOfChannel}, FeedFault.FeedFault}, Getters.recording_of}
@@ -10,7 +10,7 @@ use Rattle.hls_media_laws.specs.IsInitOrUnit.{IsInit, IsUnit}
 use Rattle.hls_core_laws.specs.declared.{event.Event.TheVariants.{Begin, Accept}, refusal.Refusal.TheVariants.{NoInit, Overlap, Memory}}
 use Rattle.hls_http.specs.{declared.framing.BodyFraming.TheVariants.Length, Bodies.{IsBroken, IsOpen}}
 use Rattle.hls_api.specs.{declared.ingest.IngestCounts.IngestCounts, declared.encoder_readings.EncoderReadings.EncoderReadings}
-use Rattle.hls_api.specs.{Acts.{Act, AtMostOne, IsFailedSubmit, IsLook, RecordsLook, RecordsReading, LooksAndFailsToSubmit, RecordsSubmit}, Jumps.{is_accepted_by, is_ahead_in}}
+use Rattle.hls_api.specs.{Acts.{Act, AtMostOne, IsFailedSubmit, IsLook, RecordsLook, RecordsReading, LooksAndFailsToSubmit, RecordsSubmit}, GapLimits.settings_for, Jumps.{is_accepted_by, is_ahead_in}}
 use Rattle.hls_api.specs.Types.{StreamFault, Refusal, State, Done, BodyFraming, BodyEnd, IngestStop, IngestTarget}
 use Rattle.hls_record.specs.RecordingData.{RecordingData}
 use Rattle.hls_mend.specs.InitSections.{is_same_to_decoders}
@@ -181,21 +181,21 @@ abbrev pub DecidesUnit : MendSettings → ℕ → Option ℕ → InitData → Re
 DecidesUnit settings r end init u before mended after =
     ((end ≡ Some u.facts.start) × (mended ≡ as_sent u) × (after ≡ before))
     ⊎ ((end ≢ Some u.facts.start)
-    × ((state : State) × (looked : List Act) × RecordsLook before state looked × MaySubmit settings r state u.facts looked after true × (mended ≡ mended_for settings init u (recording_of state r))))
+    × ((state : State) × (looked : List Act) × RecordsLook before state looked × MaySubmit settings r state u.facts looked after true × (mended ≡ mended_for (settings_for settings state r u.facts.start_us) init u (recording_of state r))))
 
 -- .. by which it may not be submitted
 abbrev pub RefusesAhead : MendSettings → ℕ → Option ℕ → Facts → List Act → List Act → Type 0
 RefusesAhead settings r end f before after =
     (end ≢ Some f.start) × ((state : State) × (looked : List Act) × RecordsLook before state looked × MaySubmit settings r state f looked after false)
 
--- a filler counts if it is new; one that the channel refuses is left out
+-- a filler counts if it is new; one that the channel refuses is left out, except one that overlaps
 abbrev pub with_filler : Result Done Refusal → IngestCounts → IngestCounts
 with_filler (Ok (done.New version)) c = record c { filled = one_more c.filled }
 with_filler answer c = c
 
 abbrev pub SubmitsFiller : ℕ → ReadUnit → IngestCounts → List Act → IngestCounts → List Act → Type 0
 SubmitsFiller r u c before counts after =
-    (answer : Result Done Refusal) × (answer ≢ Err Memory) × RecordsSubmit before (Accept r u.facts u.bytes) answer after × (counts ≡ with_filler answer c)
+    (answer : Result Done Refusal) × (answer ≢ Err Memory) × (answer ≢ Err Overlap) × RecordsSubmit before (Accept r u.facts u.bytes) answer after × (counts ≡ with_filler answer c)
 
 -- .. one after another
 abbrev pub SubmitsFillers : ℕ → List ReadUnit → IngestCounts → List Act → IngestCounts → List Act → Type 0
@@ -246,6 +246,26 @@ pub record MendsUnit (settings : MendSettings) (r : ℕ) (x : Progress) (bytes :
   pub kept : y.init ≡ Some init
   pub result_is : result ≡ mended_result answer
 
+-- filler `count` of a unit overlaps, since somebody else filled the rendition after the look. Later ones and the unit would leave a gap, so they
+-- aren't submitted: the unit is left out, and the body continues
+pub record IsOvertaken (settings : MendSettings) (r : ℕ) (x : Progress) (bytes : List ℕ) (y : Progress) (result : Result (Unit {0}) FeedFault) : Type 0 where
+  pub init : InitData
+  pub mended : Mended
+  pub seen : List Act
+  pub decided : DecidesPart settings r x bytes init mended seen
+  pub count : ℕ
+  pub within : count < length mended.fillers
+  pub filler : ReadUnit
+  pub filler_is : filler ≡ slice_index_or mended.fillers count filler
+  pub filled : IngestCounts
+  pub before : List Act
+  pub fills : SubmitsFillers r (take count mended.fillers) x.counts seen filled before
+  pub overlaps : RecordsSubmit before (Accept r filler.facts filler.bytes) (Err Overlap) y.acts
+  pub counts : y.counts ≡ with_mended false (Err Overlap) filled
+  pub ends : y.end ≡ None
+  pub kept : y.init ≡ Some init
+  pub result_is : result ≡ Ok tt
+
 -- an allocation failed after the first `count` fillers of a unit
 pub record FailsInFillers (settings : MendSettings) (r : ℕ) (x : Progress) (bytes : List ℕ) (after : List Act) : Type 0 where
   pub init : InitData
@@ -282,7 +302,8 @@ StopsBeforeUnit settings r x bytes y (Err (feed_faults.Refused fault)) = Refuses
 
 abbrev pub MendsPart : MendSettings → ℕ → Progress → Part → Progress → Result (Unit {0}) FeedFault → Type 0
 MendsPart settings r x (parts.Init bytes) y result = MendsInit r x bytes y result
-MendsPart settings r x (parts.Unit bytes) y result = MendsUnit settings r x bytes y result ⊎ StopsBeforeUnit settings r x bytes y result
+MendsPart settings r x (parts.Unit bytes) y result =
+    MendsUnit settings r x bytes y result ⊎ (IsOvertaken settings r x bytes y result ⊎ StopsBeforeUnit settings r x bytes y result)
 
 -- ---- a body, by its whole content
 

@@ -4,6 +4,7 @@ pub mod Acts
 pub mod ConnectionStates
 pub mod Faults
 pub mod Exchanges
+pub mod GapLimits
 pub mod Ingest
 pub mod JobResponses
 pub mod JobTable

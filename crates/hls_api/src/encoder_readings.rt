@@ -2,7 +2,7 @@
 
 ghost use Rattle.std.specs.Prelude.{◌≡◌, ◌<◌, length};
 ghost use Rattle.hls_core.specs.Getters.{recording_of};
-ghost use Rattle.hls_api.specs.Jumps.{ahead_in, end_us_in, is_accepted_by, is_ahead_in, is_open_at, later as later_of, newest_end, other_presences, presence_of};
+ghost use Rattle.hls_api.specs.Jumps.{ahead_in, end_us_in, is_accepted_by, is_ahead_by, is_ahead_in, is_open_at, later as later_of, newest_end, other_presences, presence_of};
 
 use hls_core::snapshot::Snapshot;
 use hls_mend::{is_accepted_jump, is_ahead_of_channel};
@@ -49,7 +49,7 @@ fn later(first: Option<u64>, second: Option<u64>) -> Option<u64>
 }
 
 /// The end of a rendition's last unit in microseconds.
-fn end_us(snapshot: &Snapshot, rendition: usize) -> Option<u64>
+pub(crate) fn end_us(snapshot: &Snapshot, rendition: usize) -> Option<u64>
     ensures { result ≡ end_us_in (recording_of snapshot.now rendition) }
 {
     let recording = snapshot.recording(rendition)?;
@@ -69,15 +69,22 @@ fn find_newest_end(snapshot: &Snapshot) -> Option<u64>
     newest
 }
 
+/// Whether a unit that starts at `start_us` is ahead of an end: more than `fill_us` after it. None is if there is no end.
+pub(crate) fn is_ahead_of_end(fill_us: u32, end_us: Option<u64>, start_us: u64) -> bool
+    ensures { result ≡ is_ahead_by fill_us end_us start_us }
+{
+    match end_us {
+        Some(end_us) => is_ahead_of_channel(u64::from(fill_us), end_us, start_us),
+        None => false,
+    }
+}
+
 /// Whether a unit that starts at `start_us` is ahead of the channel: more than `fill_us` after the newest end of all renditions. None is
 /// before the channel's first unit.
 pub fn is_ahead(fill_us: u32, snapshot: &Snapshot, start_us: u64) -> bool
     ensures { result ≡ is_ahead_in fill_us snapshot.now start_us }
 {
-    match find_newest_end(snapshot) {
-        Some(newest) => is_ahead_of_channel(u64::from(fill_us), newest, start_us),
-        None => false,
-    }
+    is_ahead_of_end(fill_us, find_newest_end(snapshot), start_us)
 }
 
 /// How far after the newest end of all renditions a unit starts, in microseconds; 0 if it doesn't.

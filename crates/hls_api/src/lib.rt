@@ -12,6 +12,7 @@ pub mod catchup_params;
 pub mod catchup_query;
 pub mod encoder_readings;
 pub mod fault;
+pub mod gap_limit;
 pub mod ingest;
 mod job_responses;
 pub mod laws;

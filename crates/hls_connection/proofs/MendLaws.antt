@@ -2,15 +2,15 @@
 use Rattle.std.proofs.Common.{true, false, ◌≡◌, ◌≢◌, ◌∙◌, ◌<◌, ◌≤◌, ◌+◌, ◌^◌, ℕ, Some, None, Option, Result, Ok, Err, inl, inr, List, [], ◌∷◌, ◌++◌, All, length, get_or, take, refl, sym, subst, ap}
 use Rattle.std.proofs.lemmas.{List.{take_all, take_more}, List.Elements.All-get_or}
 use Rattle.hls_media_laws.specs.{InitData.InitData, declared.facts.Facts.Facts, declared.fault.MediaFault.MediaFault, IsInitOrUnit.{IsUnit, UnitsAreBounded}, UnitFacts.facts}
-use Rattle.hls_core_laws.specs.{declared.event.Event.TheVariants.Accept, Moves.IsFittingAsSeen, State.State}
+use Rattle.hls_core_laws.specs.{declared.event.Event.TheVariants.Accept, declared.refusal.Refusal.TheVariants.Overlap, Moves.IsFittingAsSeen, State.State}
 use Rattle.hls_core.specs.declared.feed_fault.FeedFault.{FeedFault}
 use Rattle.hls_core.specs.declared.feed_fault.StreamFault.{StreamFault}
 use Rattle.hls_core.specs.declared.feed_fault.StreamFault.TheVariants.{AheadOfChannel, Media}
 use Rattle.hls_mend_laws.specs.declared.settings.MendSettings.{MendSettings}
 use Rattle.hls_mend.specs.{MendedUnits.mended_view, declared.mended.MendedUnit.MendedUnit, declared.mended.ReadUnit.ReadUnit}
 use Rattle.hls_api.specs.declared.ingest.IngestCounts.{IngestCounts}
-use Rattle.hls_api.specs.Acts.{Act, AtMostOne, IsLook, Knowledge, Looked, RecordsLook}
-use Rattle.hls_api.specs.Ingest.{ChoosesInit, DecidesUnit, FindsInit, HandlesPart, MaySubmit, MendsInit, MendsPart, Progress, RefusesAhead, RefusesUnitBefore, StopsBeforeUnit, SubmitsFiller, SubmitsFillers, end_after}
+use Rattle.hls_api.specs.Acts.{Act, AtMostOne, IsLook, Knowledge, Looked, RecordsLook, RecordsSubmit}
+use Rattle.hls_api.specs.Ingest.{ChoosesInit, DecidesUnit, FindsInit, HandlesPart, MaySubmit, MendsInit, MendsPart, Progress, RefusesAhead, RefusesUnitBefore, StopsBeforeUnit, SubmitsFiller, SubmitsFillers, end_after, with_mended}
 use Rattle.hls_connection.{specs.IngestStates.{FindsInitOrFails, IsUsable}, proofs.PassLaws.{fits_unit, found_init}}
 use Rattle.hls_connection.specs.MendingStates.{ChoosesInitOrFails, DecidesUnitOrFails, HasReadUnit, IsPrepared, MakesMended, PreparesOrStops, SubmitsFillerOrFails, SubmitsFillersOrFail, SubmitsMended, with_acts, with_counts}
 use Rattle.hls_boxes.specs.declared.part.Part.TheVariants as parts
@@ -136,22 +136,39 @@ pub stops_in_fillers : (r : ℕ) (x z y : Progress) (us : List ReadUnit) (n : �
 stops_in_fillers r x z y us n u (feed_faults.Refused fault) some fails = absurd fails
 stops_in_fillers r x z y us n u feed_faults.Memory some fails = record { count = n; filled = z.counts; before = z.acts; fills = some; failed = fails }
 
+-- one of them overlaps
+pub stops_at_overlap : (r : ℕ) (x z y : Progress) (us : List ReadUnit) (n : ℕ) (u : ReadUnit) → n < length us → u ≡ get_or us n u → z ≡ with_counts x z.counts z.acts
+    → SubmitsFillers r (take n us) x.counts x.acts z.counts z.acts → SubmitsFillerOrFails r z u y (Ok false) → SubmitsFillersOrFail r x us y (Ok false)
+stops_at_overlap r x z y us n u small is same some (only, overlaps) =
+    let counts : y.counts ≡ z.counts = ap (λ (p : Progress). p.counts) only in (
+      only ∙ ap (λ (p : Progress). with_acts p y.acts) same ∙ ap (λ (c : IngestCounts). with_counts x c y.acts) (sym counts),
+      record {
+        count = n;
+        within = small;
+        filler = u;
+        filler_is = is;
+        before = z.acts;
+        fills = subst (λ (c : IngestCounts). SubmitsFillers r (take n us) x.counts x.acts c z.acts) (sym counts) some;
+        overlaps = overlaps;
+      },
+    )
+
 -- all of them were submitted
 pub fills_all : (r : ℕ) (x y : Progress) (us : List ReadUnit) (n : ℕ) → length us ≤ n → y ≡ with_counts x y.counts y.acts → SubmitsFillers r (take n us) x.counts x.acts y.counts y.acts
-    → SubmitsFillersOrFail r x us y (Ok tt)
+    → SubmitsFillersOrFail r x us y (Ok true)
 fills_all r x y us n all same some = (same, subst (λ (vs : List ReadUnit). SubmitsFillers r vs x.counts x.acts y.counts y.acts) (take_all n us all) some)
 
 -- ---- units
 
 -- nothing was decided
 pub stops_preparing : (settings : MendSettings) (r : ℕ) (x y : Progress) (bytes : List ℕ) (fault : FeedFault) → PreparesOrStops settings r x bytes y (Err fault) → MendsPart settings r x (parts.Unit bytes) y (Err fault)
-stops_preparing settings r x y bytes fault stops = inr stops
+stops_preparing settings r x y bytes fault stops = inr (inr stops)
 
 -- an allocation failed in the fillers
 pub stops_filling : (settings : MendSettings) (r : ℕ) (x z y : Progress) (bytes : List ℕ) (m : MendedUnit) (fault : FeedFault) → IsPrepared settings r x bytes z m
     → SubmitsFillersOrFail r z m.fillers.items y (Err fault) → MendsPart settings r x (parts.Unit bytes) y (Err fault)
 stops_filling settings r x z y bytes m (feed_faults.Refused fault) p fails = absurd fails
-stops_filling settings r x z y bytes m feed_faults.Memory p fails = inr (inr (record {
+stops_filling settings r x z y bytes m feed_faults.Memory p fails = inr (inr (inr (record {
   init = p.init;
   mended = mended_view m;
   seen = z.acts;
@@ -161,11 +178,34 @@ stops_filling settings r x z y bytes m feed_faults.Memory p fails = inr (inr (re
   before = fails.before;
   fills = subst (λ (c : IngestCounts). SubmitsFillers r (take fails.count m.fillers.items) c z.acts fails.filled fails.before) p.counts fails.fills;
   failed = fails.failed;
+})))
+
+-- one of the fillers overlaps
+pub is_overtaken : (settings : MendSettings) (r : ℕ) (x z w y : Progress) (bytes : List ℕ) (m : MendedUnit) → IsPrepared settings r x bytes z m
+    → SubmitsFillersOrFail r z m.fillers.items w (Ok false) → y.acts ≡ w.acts → y.counts ≡ with_mended false (Err Overlap) w.counts → y.end ≡ None → y.init ≡ w.init
+    → MendsPart settings r x (parts.Unit bytes) y (Ok tt)
+is_overtaken settings r x z w y bytes m p (same, stops) acts counts end init = inr (inl (record {
+  init = p.init;
+  mended = mended_view m;
+  seen = z.acts;
+  decided = p.decided;
+  count = stops.count;
+  within = stops.within;
+  filler = stops.filler;
+  filler_is = stops.filler_is;
+  filled = w.counts;
+  before = stops.before;
+  fills = subst (λ (c : IngestCounts). SubmitsFillers r (take stops.count m.fillers.items) c z.acts w.counts stops.before) p.counts stops.fills;
+  overlaps = subst (λ (after : List Act). RecordsSubmit stops.before (Accept r stops.filler.facts stops.filler.bytes) (Err Overlap) after) (sym acts) stops.overlaps;
+  counts = counts;
+  ends = end;
+  kept = init ∙ ap (λ (q : Progress). q.init) same ∙ p.is;
+  result_is = refl;
 }))
 
 -- the fillers and the unit were submitted
 pub mends_unit : (settings : MendSettings) (r : ℕ) (x z w y : Progress) (bytes : List ℕ) (m : MendedUnit) (result : Result (Unit {0}) FeedFault) → IsPrepared settings r x bytes z m
-    → SubmitsFillersOrFail r z m.fillers.items w (Ok tt) → SubmitsMended r w m.unit m.is_changed y result → MendsPart settings r x (parts.Unit bytes) y result
+    → SubmitsFillersOrFail r z m.fillers.items w (Ok true) → SubmitsMended r w m.unit m.is_changed y result → MendsPart settings r x (parts.Unit bytes) y result
 mends_unit settings r x z w y bytes m result p (same, fills) s = inl (record {
   init = p.init;
   mended = mended_view m;

@@ -4,7 +4,7 @@ use Rattle.std.specs.Prelude.{◌≡◌, ◌<◌, ℕ, List, length, Option}
 use Rattle.hls_event_loop.specs.declared.activity.ConnectionStage.{ConnectionStage}
 use Rattle.hls_api.specs.{Acts.Knowledge, ConnectionStates.{History, Stage}, ActLinks.IsLaterKnowledge}
 use Rattle.hls_connection.specs.{declared.connection.Connection.Connection, declared.events.SessionEvent.SessionEvent, declared.state.ConnectionState.ConnectionState}
-use Rattle.hls_connection.specs.{States.read_failure_event_in, States.stage_of, Waits.AnswersDue, Waits.deadline_in, WithinBody.status_into}
+use Rattle.hls_connection.specs.{States.read_failure_event_in, States.stage_of, Waits.AnswersDue, Waits.deadline_in, WithinBody.BodyIsBetweenParts, WithinBody.status_into}
 use Rattle.hls_connection.specs.Traces.{IsSuitedTo, TraceIsIdleOrBlocked, TraceWaits, WantsMore, history_of, trace_of}
 use Rattle.hls_event_loop.specs.declared.activity.ConnectionStage.TheVariants as stages
 use Rattle.hls_connection.specs.declared.state.ConnectionState.TheVariants as states
@@ -65,6 +65,16 @@ HasStatus waits state unread = ⊥
 abbrev pub IsStatus : ConnectionStage → Connection → Type 0
 IsStatus stages.Responding v = 0 < length (history v).pending
 IsStatus waits v = (length (history v).pending ≡ 0) × HasStatus waits (state_of v) (history v).unread
+
+-- it receives an encoder's body in chunks, all that was received of it was taken, and nothing of its next part is there
+abbrev pub StateIsBetweenParts : ConnectionState → Type 0
+StateIsBetweenParts (states.Receive r) = BodyIsBetweenParts r
+StateIsBetweenParts state = ⊥
+
+pub record IsBetweenParts (v : Connection) : Type 0 where
+  pub sent : length (history v).pending ≡ 0
+  pub read : length (history v).unread ≡ 0
+  pub between : StateIsBetweenParts (state_of v)
 
 -- the event for a failed read
 abbrev pub read_failure_event : Connection → Option SessionEvent

@@ -1,13 +1,14 @@
 -- How far a part was taken of a body whose units are mended.
-use Rattle.std.specs.Prelude.{◌≡◌, ℕ, Bool, Option, Some, None, Result, Ok, Err, List, take}
+use Rattle.std.specs.Prelude.{◌≡◌, ◌<◌, ℕ, Bool, true, false, Option, Some, None, Result, Ok, Err, List, length, take, slice_index_or}
 use Rattle.hls_media_laws.specs.{InitData.InitData, IsInitOrUnit.IsUnit}
-use Rattle.hls_core_laws.specs.declared.{event.Event.TheVariants.Accept, refusal.Refusal.Refusal, done.Done.Done}
+use Rattle.hls_core_laws.specs.declared.{event.Event.TheVariants.Accept, refusal.Refusal.{Refusal, TheVariants.Overlap}, done.Done.Done}
 use Rattle.hls_core.specs.{declared.feed_fault.{FeedFault.FeedFault, StreamFault.TheVariants.AheadOfChannel}, Getters.recording_of}
 use Rattle.hls_core_laws.specs.State.{State}
 use Rattle.hls_mend_laws.specs.declared.settings.MendSettings.{MendSettings}
 use Rattle.hls_mend.specs.{MendedUnits.mended_view, declared.mended.MendedUnit.MendedUnit, declared.mended.ReadUnit.ReadUnit}
 use Rattle.hls_api.specs.declared.ingest.IngestCounts.{IngestCounts}
 use Rattle.hls_api.specs.Acts.{Act, AtMostOne, IsFailedSubmit, IsLook, RecordsSubmit}
+use Rattle.hls_api.specs.GapLimits.{settings_for}
 use Rattle.hls_api.specs.Ingest.{ChoosesInit, DecidesPart, DecidesUnit, Progress, RefusesAhead, StopsBeforeUnit, SubmitsFiller, SubmitsFillers, end_after, mended_for, mended_result, with_mended}
 use Rattle.hls_core.specs.declared.feed_fault.FeedFault.TheVariants as feed_faults
 
@@ -31,7 +32,7 @@ ChoosesInitOrFails r x bytes y (Err feed_faults.Memory) = AtMostOne IsLook x.act
 
 -- what mending makes of a unit in a state; or an allocation failed
 abbrev pub MakesMended : MendSettings → ℕ → Option InitData → State → ReadUnit → Result MendedUnit FeedFault → Type 0
-MakesMended settings r found s u (Ok mended) = (init : InitData) → found ≡ Some init → mended_view mended ≡ mended_for settings init u (recording_of s r)
+MakesMended settings r found s u (Ok mended) = (init : InitData) → found ≡ Some init → mended_view mended ≡ mended_for (settings_for settings s r u.facts.start_us) init u (recording_of s r)
 MakesMended settings r found s u (Err (feed_faults.Refused fault)) = ⊥
 MakesMended settings r found s u (Err feed_faults.Memory) = Unit {0}
 
@@ -55,11 +56,22 @@ abbrev pub PreparesOrStops : MendSettings → ℕ → Progress → List ℕ → 
 PreparesOrStops settings r x bytes y (Ok mended) = IsPrepared settings r x bytes y mended
 PreparesOrStops settings r x bytes y (Err fault) = StopsBeforeUnit settings r x bytes y (Err fault)
 
--- a filler is submitted; or an allocation failed
-abbrev pub SubmitsFillerOrFails : ℕ → Progress → ReadUnit → Progress → Result (Unit {0}) FeedFault → Type 0
-SubmitsFillerOrFails r x filler y (Ok done) = (y ≡ with_counts x y.counts y.acts) × SubmitsFiller r filler x.counts x.acts y.counts y.acts
+-- a filler is submitted, and doesn't overlap; or it does; or an allocation failed
+abbrev pub SubmitsFillerOrFails : ℕ → Progress → ReadUnit → Progress → Result Bool FeedFault → Type 0
+SubmitsFillerOrFails r x filler y (Ok true) = (y ≡ with_counts x y.counts y.acts) × SubmitsFiller r filler x.counts x.acts y.counts y.acts
+SubmitsFillerOrFails r x filler y (Ok false) = (y ≡ with_acts x y.acts) × RecordsSubmit x.acts (Accept r filler.facts filler.bytes) (Err Overlap) y.acts
 SubmitsFillerOrFails r x filler y (Err (feed_faults.Refused fault)) = ⊥
 SubmitsFillerOrFails r x filler y (Err feed_faults.Memory) = AtMostOne IsFailedSubmit x.acts y.acts
+
+-- one of the fillers overlaps, and those before it don't
+pub record StopsAtOverlap (r : ℕ) (x : Progress) (fillers : List ReadUnit) (counts : IngestCounts) (after : List Act) : Type 0 where
+  pub count : ℕ
+  pub within : count < length fillers
+  pub filler : ReadUnit
+  pub filler_is : filler ≡ slice_index_or fillers count filler
+  pub before : List Act
+  pub fills : SubmitsFillers r (take count fillers) x.counts x.acts counts before
+  pub overlaps : RecordsSubmit before (Accept r filler.facts filler.bytes) (Err Overlap) after
 
 -- an allocation failed after the first `count` fillers
 pub record StopsInFillers (r : ℕ) (x : Progress) (fillers : List ReadUnit) (after : List Act) : Type 0 where
@@ -69,9 +81,10 @@ pub record StopsInFillers (r : ℕ) (x : Progress) (fillers : List ReadUnit) (af
   pub fills : SubmitsFillers r (take count fillers) x.counts x.acts filled before
   pub failed : AtMostOne IsFailedSubmit before after
 
--- fillers are submitted; or an allocation failed after some of them
-abbrev pub SubmitsFillersOrFail : ℕ → Progress → List ReadUnit → Progress → Result (Unit {0}) FeedFault → Type 0
-SubmitsFillersOrFail r x fillers y (Ok done) = (y ≡ with_counts x y.counts y.acts) × SubmitsFillers r fillers x.counts x.acts y.counts y.acts
+-- fillers are submitted; or one overlaps; or an allocation failed after some of them
+abbrev pub SubmitsFillersOrFail : ℕ → Progress → List ReadUnit → Progress → Result Bool FeedFault → Type 0
+SubmitsFillersOrFail r x fillers y (Ok true) = (y ≡ with_counts x y.counts y.acts) × SubmitsFillers r fillers x.counts x.acts y.counts y.acts
+SubmitsFillersOrFail r x fillers y (Ok false) = (y ≡ with_counts x y.counts y.acts) × StopsAtOverlap r x fillers y.counts y.acts
 SubmitsFillersOrFail r x fillers y (Err (feed_faults.Refused fault)) = ⊥
 SubmitsFillersOrFail r x fillers y (Err feed_faults.Memory) = StopsInFillers r x fillers y.acts
 

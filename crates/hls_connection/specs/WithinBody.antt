@@ -4,7 +4,7 @@ use Rattle.hls_api.specs.declared.route.ServedChannel.{ServedChannel}
 use Rattle.std.specs.Prelude.{◌≡◌, ◌≤◌, ℕ, ◌+◌, ◌-◌, Bool, true, false, not, List, [], ◌++◌, length, Option, None, Some, Result, Ok, Err, codes}
 use Rattle.std.specs.Option.{is_some}
 use Rattle.httparse.specs.Grammar.{RequestHead}
-use Rattle.hls_boxes.specs.Parts.{text_fault}
+use Rattle.hls_boxes.specs.Parts.{fault_at_end, stream_cut, text_fault}
 use Rattle.hls_core.specs.{declared.feed_fault.{StreamFault.StreamFault, FeedFault.FeedFault}, Streams.{EndsStream, Feeds, IsLeft, Reached}}
 use Rattle.hls_http.specs.{declared.framing.BodyFraming.BodyFraming, declared.request_action.RequestAction.RequestAction, Heads.ReadsLimitedHead, Actions.is_over, Actions.announced_len}
 use Rattle.hls_http.specs.{declared.request_action.RequestAction.TheVariants.{Ingest, Discard}, Bodies.{StepsThrough, IsOpen}}
@@ -21,6 +21,7 @@ use Rattle.hls_connection.specs.declared.state.Awaited.TheVariants as awaits
 use Rattle.hls_connection.specs.declared.receive.BodyTarget.TheVariants.{Nothing, Encoder}
 use Rattle.hls_connection.specs.declared.receive.BodyProgress.TheVariants.{More, Wait, TooLarge, Done}
 use Rattle.hls_connection.specs.{IngestStates.IsUsable, IngestStates.progress_of, RequestContexts.IsContextOf, RequestContexts.IsResponse}
+use Rattle.hls_http.specs.declared.framing.BodyFraming.TheVariants.{Length, Size, Data, Trailers}
 use Rattle.hls_http.specs.declared.end.BodyEnd.TheVariants as bodies
 use Rattle.hls_http.specs.declared.end.DiscardEnd.TheVariants as discards
 use Rattle.hls_event_loop.specs.declared.activity.ConnectionStage.TheVariants as stages
@@ -59,6 +60,21 @@ SuitsTarget known (Encoder encoder reader) taken = IsUsable encoder.rendition kn
 abbrev pub status_into : BodyTarget → ConnectionStage
 status_into (Nothing room) = stages.Discarding
 status_into (Encoder encoder reader) = stages.Ingesting
+
+-- nothing of an encoder's next part was received: its content could end here
+abbrev pub TargetIsBetweenParts : BodyTarget → Type 0
+TargetIsBetweenParts (Nothing room) = ⊥
+TargetIsBetweenParts (Encoder encoder reader) = fault_at_end (stream_cut reader).left ≡ None
+
+-- .. and the body is in chunks, the last of which wasn't read
+abbrev pub IsBetweenPartsIn : BodyFraming → BodyTarget → Type 0
+IsBetweenPartsIn (Length n) target = ⊥
+IsBetweenPartsIn Size target = TargetIsBetweenParts target
+IsBetweenPartsIn (Data n) target = TargetIsBetweenParts target
+IsBetweenPartsIn Trailers target = ⊥
+
+abbrev pub BodyIsBetweenParts : ReceivingBody → Type 0
+BodyIsBetweenParts r = IsBetweenPartsIn r.body r.target
 
 -- whether it is an encoder's whose units are mended
 abbrev pub is_mended_into : BodyTarget → Bool

@@ -62,6 +62,27 @@ impl ActiveConnection {
         }
     }
 
+    /// What an idle one leaves. It isn't moved: a function clears the places of all values that it moves.
+    fn take_idle(&mut self) -> ConnectionMemory
+        requires { IsIdle self.old }
+        ensures { trace_of result ≡ trace_at self.old.machine self.old.input.unread }
+    {
+        ConnectionMemory::Idle {
+            channel: self.machine.channel,
+            notes: mem::replace(&mut self.machine.notes, ConnectionNotes::new()),
+        }
+    }
+
+    /// Releases the input's buffer between two requests, or while a response waits, if nothing is unread.
+    fn release_input(&mut self)
+        ensures { trace_at self.new.machine self.new.input.unread ≡ trace_at self.old.machine self.old.input.unread }
+    {
+        match self.machine.state {
+            ConnectionState::Head | ConnectionState::Wait(_) => self.input.release(),
+            _ => {}
+        }
+    }
+
     /// Becomes idle: its input and its machine are dropped.
     fn into_idle(self) -> ConnectionMemory
         requires { IsIdle self }
@@ -115,19 +136,14 @@ impl ConnectionMemory {
     fn release(&mut self)
         ensures { trace_of self.new ≡ trace_of self.old }
     {
-        match mem::replace(self, ConnectionMemory::new(NO_CHANNEL)) {
-            ConnectionMemory::Active(active) if active.is_idle() => {
-                *self = Box::into_inner(active).into_idle();
-            }
-            ConnectionMemory::Active(mut active) => {
-                match active.machine.state {
-                    ConnectionState::Head | ConnectionState::Wait(_) => active.input.release(),
-                    _ => {}
-                }
-                *self = ConnectionMemory::Active(active);
-            }
-            idle => *self = idle,
+        let ConnectionMemory::Active(active) = self else {
+            return;
+        };
+        if !active.is_idle() {
+            return active.release_input();
         }
+        let idle = active.take_idle();
+        *self = idle;
     }
 
     /// The first `count` of the bytes that wait were sent.
@@ -154,7 +170,7 @@ pub struct Connection {
 }
 
 impl Connection {
-    ghost use Rattle.hls_connection.specs.Connections.{AnswersWait, IsStatus, IsIdleOrBlocked, KeeperSuits, Waits, WantsRead, deadline, read_failure_event, history, channel_of, stage, steps_left};
+    ghost use Rattle.hls_connection.specs.Connections.{AnswersWait, IsBetweenParts, IsStatus, IsIdleOrBlocked, KeeperSuits, Waits, WantsRead, deadline, read_failure_event, history, channel_of, stage, steps_left};
     ghost use Rattle.hls_connection.specs.Waits.{IsAhead, IsDeadline};
 
     /// A new connection to the keeper's channel. `mending` says how units are mended, if they are. `shown_us` is how many microseconds live
@@ -334,6 +350,22 @@ impl Connection {
             ConnectionState::Wait(_) => ConnectionStage::Waiting,
             ConnectionState::Write(_) => ConnectionStage::Writing,
             ConnectionState::Ended(_) => ConnectionStage::Lingering,
+        }
+    }
+
+    /// Whether it receives an encoder's body in chunks, all that was received of it was taken, and nothing of its next part is there.
+    pub fn is_between_parts(&self) -> bool
+        ensures { IsTrue result ↔ IsBetweenParts self.now }
+    {
+        let ConnectionMemory::Active(active) = &self.memory else {
+            return false;
+        };
+        if !active.machine.output.is_empty() || !active.input.unread().is_empty() {
+            return false;
+        }
+        match &active.machine.state {
+            ConnectionState::Receive(receiving) => receiving.is_between_parts(),
+            _ => false,
         }
     }
 

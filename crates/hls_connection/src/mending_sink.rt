@@ -12,6 +12,7 @@ use crate::ingest_sink::{IngestSink, IngestState};
 use crate::keeper::Keeper;
 use bytes::Bytes;
 use hls_api::encoder_readings::{ahead_us, is_ahead, is_jump_accepted};
+use hls_api::gap_limit::settings_for;
 use hls_api::ingest::IngestCounts;
 use hls_boxes::Part;
 use hls_core::snapshot::Snapshot;
@@ -180,6 +181,8 @@ impl<K: Keeper> IngestSink<K> {
         let Some(recording) = state.recording(self.encoder.rendition) else {
             return Ok(as_sent(keeper.alloc(), unit));
         };
+        let start_us = unit.facts.start_us;
+        let settings = settings_for(settings, state, self.encoder.rendition, start_us);
         match mend_unit(keeper.alloc(), settings, init, recording, unit) {
             Ok(mended) => Ok(mended),
             Err(_) => Err(FeedFault::Memory),
@@ -246,13 +249,13 @@ impl<K: Keeper> IngestSink<K> {
         self.decide_unit(settings, taken, keeper, ReadUnit { facts, bytes })
     }
 
-    /// Submits a filler. One that the channel refuses is left out.
+    /// Submits a filler, and returns whether it doesn't overlap. One that the channel refuses otherwise is left out.
     fn submit_filler(
         &self,
         taken: &mut IngestState,
         keeper: &mut K,
         filler: &ReadUnit,
-    ) -> Result<(), FeedFault>
+    ) -> Result<bool, FeedFault>
         requires usable { IsUsable self.now.encoder.rendition (K.known keeper.old) taken.old.init }
         requires reads { HasReadUnit taken.old.init filler.now }
         ensures usable { IsUsable self.now.encoder.rendition (K.known keeper.new) taken.new.init }
@@ -271,18 +274,21 @@ impl<K: Keeper> IngestSink<K> {
         if let Err(Refusal::Memory) = answer {
             return Err(FeedFault::Memory);
         }
+        if let Err(Refusal::Overlap) = answer {
+            return Ok(false);
+        }
         taken.counts = with_filler(taken.counts, answer);
-        Ok(())
+        Ok(true)
     }
 
-    /// Submits fillers, one after another.
+    /// Submits fillers, one after another, up to one that overlaps. Returns whether none does.
     #[tactic(auto, using(crate::proofs::MendLaws::stops_in_fillers, crate::proofs::MendLaws::fills_all))]
     fn submit_fillers(
         &self,
         taken: &mut IngestState,
         keeper: &mut K,
         fillers: &[ReadUnit],
-    ) -> Result<(), FeedFault>
+    ) -> Result<bool, FeedFault>
         requires usable { IsUsable self.now.encoder.rendition (K.known keeper.old) taken.old.init }
         requires reads { All (HasReadUnit taken.old.init) fillers.now }
         ensures usable { IsUsable self.now.encoder.rendition (K.known keeper.new) taken.new.init }
@@ -290,9 +296,12 @@ impl<K: Keeper> IngestSink<K> {
         ensures fills { SubmitsFillersOrFail self.now.encoder.rendition (progress_of taken.old) fillers.now (progress_of taken.new) result }
     {
         for filler in fillers {
-            self.submit_filler(taken, keeper, filler)?;
+            let is_joined = self.submit_filler(taken, keeper, filler)?;
+            if !is_joined {
+                return Ok(false);
+            }
         }
-        Ok(())
+        Ok(true)
     }
 
     /// Submits a unit, as it was sent or written again.
@@ -322,8 +331,9 @@ impl<K: Keeper> IngestSink<K> {
         into_result(answer)
     }
 
-    /// Submits what mending makes of a unit.
-    #[tactic(auto, using(crate::proofs::MendLaws::stops_preparing, crate::proofs::MendLaws::stops_filling, crate::proofs::MendLaws::mends_unit))]
+    /// Submits what mending makes of a unit. If the rendition was filled by others after the look, the unit is left out, and the next one is
+    /// decided by another look: what follows an overlapping filler would leave a gap.
+    #[tactic(auto, using(crate::proofs::MendLaws::stops_preparing, crate::proofs::MendLaws::stops_filling))]
     pub(crate) fn mend_unit(
         &self,
         settings: MendSettings,
@@ -337,7 +347,12 @@ impl<K: Keeper> IngestSink<K> {
         ensures yields { MendsPart settings self.now.encoder.rendition (progress_of taken.old) (Part.Unit bytes) (progress_of taken.new) result }
     {
         let mended = self.prepare_unit(settings, taken, keeper, bytes)?;
-        self.submit_fillers(taken, keeper, &mended.fillers)?;
+        let is_filled = self.submit_fillers(taken, keeper, &mended.fillers)?;
+        if !is_filled {
+            taken.counts = with_mended(taken.counts, false, Err(Refusal::Overlap));
+            taken.end = None;
+            return Ok(());
+        }
         self.submit_mended(taken, keeper, mended.unit, mended.is_changed)
     }
 }

@@ -4,7 +4,7 @@ ghost use Rattle.std.specs.Prelude.{◌≡◌, ◌<◌, ◌≤◌, ◌↔◌, Is
 ghost use Rattle.hls_http.specs.Bodies.{IsOpen};
 ghost use Rattle.hls_api.specs.Acts.{ActsExtend};
 ghost use Rattle.hls_connection.specs.Events.{ingest_event};
-ghost use Rattle.hls_connection.specs.WithinBody.{EndsTarget, HasRoom, IsForTarget, ReceivesFrom, SuitsTarget, TakesPiece, is_mended_into, status_into, target_after_frame};
+ghost use Rattle.hls_connection.specs.WithinBody.{BodyIsBetweenParts, EndsTarget, HasRoom, IsForTarget, ReceivesFrom, SuitsTarget, TakesPiece, TargetIsBetweenParts, is_mended_into, status_into, target_after_frame};
 ghost use Rattle.hls_connection.specs.declared.receive.BodyProgress.TheVariants as progresses;
 
 use crate::events::{IngestReport, SessionEvent};
@@ -88,6 +88,16 @@ impl BodyTarget {
         match self {
             BodyTarget::Nothing { .. } => false,
             BodyTarget::Encoder { encoder, .. } => encoder.mending.is_some(),
+        }
+    }
+
+    /// Whether it is an encoder's, and nothing of its next part was received.
+    fn is_between_parts(&self) -> bool
+        ensures { IsTrue result ↔ TargetIsBetweenParts self.now }
+    {
+        match self {
+            BodyTarget::Nothing { .. } => false,
+            BodyTarget::Encoder { reader, .. } => reader.finish().is_ok(),
         }
     }
 
@@ -181,6 +191,16 @@ impl ReceivingBody {
             counts: self.taken.counts,
             result: end,
         }))
+    }
+
+    /// Whether it is an encoder's in chunks, and nothing of its next part was received.
+    pub fn is_between_parts(&self) -> bool
+        ensures { IsTrue result ↔ BodyIsBetweenParts self.now }
+    {
+        match self.body {
+            BodyFraming::Size | BodyFraming::Data(_) => self.target.is_between_parts(),
+            _ => false,
+        }
     }
 
     /// What the connection waits for while it receives the body.

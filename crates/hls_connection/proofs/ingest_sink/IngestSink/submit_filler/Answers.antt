@@ -10,5 +10,8 @@ submit-answer-requires g c =
 pub returns-in-Err-Memory-clause-usable : goal.returns-in-Err-Memory-clause-usable
 returns-in-Err-Memory-clause-usable g c = usable_acted _ _ _ _ _ _ _ c.submit-answer.ensures.act_steps c.requires.usable
 
+pub returns-in-Err-Overlap-clause-usable : goal.returns-in-Err-Overlap-clause-usable
+returns-in-Err-Overlap-clause-usable g c = usable_acted _ _ _ _ _ _ _ c.submit-answer.ensures.act_steps c.requires.usable
+
 pub returns-clause-usable : goal.returns-clause-usable
 returns-clause-usable g c = usable_acted _ _ _ _ _ _ _ c.submit-answer.ensures.act_steps c.requires.usable
