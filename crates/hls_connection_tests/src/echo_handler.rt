@@ -103,6 +103,8 @@ impl<'a> Handler for EchoHandler<'a> {
     ghost has_stage = { λ echo stage. (length echo.unsent.items ≡ 0 → IsFalse echo.held → stage ≡ stages.Idle)
         × (0 < length echo.unsent.items → IsFalse echo.held → stage ≡ stages.Responding) };
 
+    ghost between_parts = { λ echo. ⊥ };
+
     ghost out_of_memory_reply = { 110 ∷ 111 ∷ 110 ∷ 101 ∷ [] };
 
     fn open(&self) -> EchoConnection {
@@ -186,6 +188,10 @@ impl<'a> Handler for EchoHandler<'a> {
         } else {
             ConnectionStage::Responding
         }
+    }
+
+    fn is_between_parts(&self, _connection: &EchoConnection) -> bool {
+        false
     }
 
     fn out_of_memory_text(&self) -> &'static [u8] {

@@ -54,6 +54,9 @@ pub trait Handler {
     /// The connection is at this stage, which decides its timeouts.
     ghost has_stage: { Self.Connection → ConnectionStage → Type 0 };
 
+    /// The connection is between two parts of a request without an end of its own.
+    ghost between_parts: { Self.Connection → Type 0 };
+
     /// The response to an allocation failure.
     ghost out_of_memory_reply: { List ℕ };
 
@@ -117,6 +120,11 @@ pub trait Handler {
     fn stage(&self, connection: &Self::Connection) -> ConnectionStage
         ensures stage { has_stage connection.now result }
         ensures waiting { waits connection.now → result ≡ ConnectionStage.Waiting };
+
+    /// Whether it is between two parts of a request without an end of its own, and nothing of the next one was received. A worker that is
+    /// to end closes it then.
+    fn is_between_parts(&self, connection: &Self::Connection) -> bool
+        ensures { IsTrue result ↔ between_parts connection.now };
 
     /// The text sent to a connection that ends because a read failed to allocate.
     fn out_of_memory_text(&self) -> &'static [u8]

@@ -335,7 +335,7 @@ impl<'a, H: Handler + Drop> Worker<'a, H> {
         if !self.ready.is_empty() || self.wait_queue.has_woken() {
             return Some(Duration::from_millis(0));
         }
-        if self.worker_loads.end_ms().is_some() {
+        if self.worker_loads.is_ending() {
             return Some(Duration::from_millis(ENDING_TICK_MS));
         }
         if self.accepts_left > 0

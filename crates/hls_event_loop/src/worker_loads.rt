@@ -9,9 +9,6 @@ use std::sync::atomic::{AtomicBool, AtomicU64, Ordering};
 /// How many connections above its share a worker may hold before it lets the others accept first.
 const SLACK: u64 = 4;
 
-/// How long responses may take once the workers are to end, in milliseconds.
-const LAST_RESPONSES_MS: u64 = 500;
-
 /// The rank of a worker that hasn't searched yet, before all others: it may have any connection.
 pub(crate) const UNKNOWN_RANK: u64 = 0;
 
@@ -69,8 +66,8 @@ pub struct WorkerLoads {
     most: u64,
     /// How many connections each worker accepts before it ends.
     pub(crate) connections: u64,
-    /// When the workers close the last connections, in milliseconds; the maximum unless they are to end.
-    end_ms: AtomicU64,
+    /// Since when the workers are to end, in milliseconds; the maximum unless they are.
+    ending_since_ms: AtomicU64,
 }
 
 impl WorkerLoads {
@@ -93,7 +90,7 @@ impl WorkerLoads {
             waiting_workers: AtomicU64::new(0),
             most: most.max(1),
             connections,
-            end_ms: AtomicU64::new(u64::MAX),
+            ending_since_ms: AtomicU64::new(u64::MAX),
         })
     }
 
@@ -168,12 +165,12 @@ impl WorkerLoads {
         }
     }
 
-    /// Has the workers end: they accept no more connections, close one once it has no request, and the others half a second after this
-    /// moment of the monotonic clock. Each connection gets turns until then. Any thread may call this.
+    /// Has the workers end from this moment of the monotonic clock on: they accept no more connections, close one once it has no request
+    /// or, after 40 ms, is between two parts of an endless one, and the others after half a second. Each connection gets turns until
+    /// then. Any thread may call this.
     pub fn end(&self, now_ms: u64) {
-        if self.end_ms().is_none() {
-            self.end_ms
-                .store(now_ms.saturating_add(LAST_RESPONSES_MS), Ordering::SeqCst);
+        if self.ending_since_ms().is_none() {
+            self.ending_since_ms.store(now_ms, Ordering::SeqCst);
         }
         for worker_load in &self.loads {
             worker_load.waker.wake(WakeReason::Connection);
@@ -183,14 +180,14 @@ impl WorkerLoads {
 
     /// Whether the workers are to end.
     pub fn is_ending(&self) -> bool {
-        self.end_ms().is_some()
+        self.ending_since_ms().is_some()
     }
 
-    /// When the workers close the last connections, if they are to end.
-    pub(crate) fn end_ms(&self) -> Option<u64> {
-        match self.end_ms.load(Ordering::SeqCst) {
+    /// Since when the workers are to end, if they are.
+    pub(crate) fn ending_since_ms(&self) -> Option<u64> {
+        match self.ending_since_ms.load(Ordering::SeqCst) {
             u64::MAX => None,
-            end_ms => Some(end_ms),
+            since_ms => Some(since_ms),
         }
     }
 

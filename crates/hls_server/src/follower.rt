@@ -143,10 +143,14 @@ impl<'a> FollowerContext<'a> {
             return Ok(None);
         }
         self.follow(follower, round, &snapshot)?;
-        let now = monotonic_ms(rt);
-        if follower.wants_end(&snapshot) {
+        if follower.wants_end(&snapshot) && !self.worker_loads.is_ending() {
+            // what is synced while requests are served isn't waited for afterwards
+            follower.sync()?;
+            let now = monotonic_ms(rt);
             self.worker_loads.end(now);
+            return Ok(Some(now));
         }
+        let now = monotonic_ms(rt);
         Ok(Some(sync_when_due(follower, self.sync_interval_ms, synced_ms, now)?))
     }
 

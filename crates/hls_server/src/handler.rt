@@ -4,7 +4,7 @@ ghost use Rattle.std.specs.Prelude.{◌≡◌, ◌⊎◌, IsFalse};
 ghost use Rattle.hls_http.specs.ResponseText.{out_of_memory_text};
 ghost use Rattle.hls_api.specs.Acts.{knowledge_of};
 ghost use Rattle.hls_connection.specs.Histories.{new_history};
-ghost use Rattle.hls_connection.specs.Connections.{IsStatus, IsIdleOrBlocked, KeeperSuits, Waits, WantsRead, history, stage, steps_left};
+ghost use Rattle.hls_connection.specs.Connections.{IsBetweenParts, IsStatus, IsIdleOrBlocked, KeeperSuits, Waits, WantsRead, history, stage, steps_left};
 ghost use Rattle.hls_server.specs.{HistoryGrowth.{serves_on, serves_nothing}, HandlerConnections.{HasStage, IsHeld, ServesHeld, socket_end, unsent}, SendGates.{Covers, unless_held}};
 
 use crate::durability::Durability;
@@ -325,6 +325,8 @@ impl<'a, R: Wait + Clock + Eprint> Handler for ServerHandler<'a, R> {
 
     ghost has_stage = { HasStage };
 
+    ghost between_parts = { λ logged. IsBetweenParts logged.connection };
+
     ghost out_of_memory_reply = { out_of_memory_text };
 
     fn open(&self) -> LoggedConnection {
@@ -419,6 +421,10 @@ impl<'a, R: Wait + Clock + Eprint> Handler for ServerHandler<'a, R> {
             return ConnectionStage::Waiting;
         }
         logged.connection.status()
+    }
+
+    fn is_between_parts(&self, logged: &LoggedConnection) -> bool {
+        logged.connection.is_between_parts()
     }
 
     fn out_of_memory_text(&self) -> &'static [u8] {
