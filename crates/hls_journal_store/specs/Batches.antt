@@ -1,5 +1,5 @@
 -- The records of log entries, and the media that come with them.
-use Rattle.std.specs.Prelude.{◌≡◌, ℕ, suc, ◌+◌, List, [], ◌∷◌, ◌++◌, Option, Some, None, take, drop, get_or, slice_get, slice_set}
+use Rattle.std.specs.Prelude.{◌≡◌, ℕ, suc, ◌+◌, ◌<◌, ◌≤◌, List, [], ◌∷◌, ◌++◌, Option, Some, None, length, take, drop, get_or, slice_get, slice_set}
 use Rattle.std.specs.Option.{option_map}
 use Rattle.hls_record.specs.RecordingData.{RecordingData, offset_at, unit_at}
 use Rattle.hls_core_laws.specs.declared.event.Entry.{Entry}
@@ -93,3 +93,9 @@ pub record IsBatch (s : State) (from : Position) (batch : Batch) : Type 0 where
   pub count : ℕ
   pub version : batch.position.version ≡ from.version + count
   pub logged : AreLogged s from.counts.items (take count (drop from.version s.log)) batch.bodies.items batch.writes.items batch.position.counts.items
+
+-- the batch of the next entries of a state's log: there are some, unless the position is at its end or above
+pub record IsNext (s : State) (from : Position) (batch : Batch) : Type 0 where
+  pub is : IsBatch s from batch
+  pub some : from.version < length s.log → from.version < batch.position.version
+  pub within : from.version ≤ length s.log → batch.position.version ≤ length s.log

@@ -73,15 +73,22 @@ pub fn make_batch(
 fn begin_batch(alloc: Global, from: &Position) -> Result<Batch, AllocError>
     ensures { IfOk result (λ batch. (batch.bodies.items ≡ []) × (batch.writes.items ≡ []) × (batch.position.version ≡ from.now.version) × (batch.position.counts.items ≡ from.now.counts.items)) }
 {
-    let mut counts = Vec::new(alloc);
-    counts.extend_from_slice(&from.counts)?;
     Ok(Batch {
         bodies: Vec::new(alloc),
         writes: Vec::new(alloc),
-        position: Position {
-            version: from.version,
-            counts,
-        },
+        position: copy_position(alloc, from)?,
+    })
+}
+
+/// Returns a copy of a position.
+pub(crate) fn copy_position(alloc: Global, from: &Position) -> Result<Position, AllocError>
+    ensures { IfOk result (λ position. (position.version ≡ from.now.version) × (position.counts.items ≡ from.now.counts.items)) }
+{
+    let mut counts = Vec::new(alloc);
+    counts.extend_from_slice(&from.counts)?;
+    Ok(Position {
+        version: from.version,
+        counts,
     })
 }
 
@@ -116,7 +123,7 @@ fn push_record(batch: &mut Batch, record: EntryRecord) -> Result<(), AllocError>
 }
 
 /// Returns the rendition of a logged event; 0 if it has none.
-fn find_rendition(event: &LoggedEvent) -> usize
+pub(crate) fn find_rendition(event: &LoggedEvent) -> usize
     ensures { result ≡ rendition_in event.now }
 {
     match event {
@@ -129,7 +136,11 @@ fn find_rendition(event: &LoggedEvent) -> usize
 }
 
 /// Counts the unit of a logged event, if it has one; this is its number.
-fn count_entry(counts: &mut [u64], event: &LoggedEvent, number: u64) -> Result<(), BatchFault>
+pub(crate) fn count_entry(
+    counts: &mut [u64],
+    event: &LoggedEvent,
+    number: u64,
+) -> Result<(), BatchFault>
     requires { number ≡ number_in counts.old event.now }
     ensures { OnOk result (counts.new ≡ counted counts.old event.now) }
 {

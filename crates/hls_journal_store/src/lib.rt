@@ -34,6 +34,7 @@ mod start_record;
 mod store;
 mod store_paths;
 mod sync_mode;
+mod whole_log;
 
 pub use anew::begin_anew;
 pub use batch::{Batch, MediaWrite, Position, RENDITIONS, make_batch};

@@ -1,14 +1,15 @@
 //! Renews the journal of a channel whose log has become long: a new log takes the place of the old one.
 
-use crate::batch::{Position, RENDITIONS, find_position, into_bytes, make_batch};
+use crate::batch::{Position, RENDITIONS, find_position, into_bytes};
 use crate::begun_log::{BegunLog, RESERVED_IDS, begin_records};
 use crate::boot_id::read_boot_id;
 use crate::fault::{OpenFault, StoreFault, StorePart, sync_fault, write_fault};
-use crate::follower::{BATCH_ENTRIES, StoreFollower, check_open, note_end};
+use crate::follower::{StoreFollower, check_open, note_end};
 use crate::log_file::LogFile;
 use crate::media_starts::MediaStarts;
 use crate::records::{append_point, append_records, sync_log};
 use crate::start_record::StartRecord;
+use crate::whole_log::{find_parts, make_parts};
 use bytes::Bytes;
 use hls_core::snapshot::Snapshot;
 use hls_journal::{ChannelHeader, make_channel_body};
@@ -16,27 +17,30 @@ use hls_journal_log::{Log, read_disk};
 use std::alloc::{AllocError, Global};
 use std::fs::File;
 use std::rt::Files;
+use std::thread::Threads;
 
 /// Replaces the log of a channel by one of the renewed channel, which `renew_channel` made of the follower's last state. Returns the first id of a job
 /// that no process has given out.
 ///
 /// The media stay where they are. A crash at any moment leaves the old log or the new one. After `Memory` and `NoRoom` the old log is
 /// still the channel's.
-pub fn renew_store<R: Files<File = File>>(
+pub fn renew_store<R: Files<File = File>, T: Threads + Sync>(
     rt: &R,
+    threads: &T,
     alloc: Global,
     follower: &mut StoreFollower,
     renewed: &Snapshot,
 ) -> Result<u64, StoreFault> {
     check_open(rt, &follower.paths, &follower.lock, &mut follower.ended)?;
     let first_job = follower.next_ids;
-    let outcome = replace_log(rt, alloc, follower, renewed);
+    let outcome = replace_log(rt, threads, alloc, follower, renewed);
     note_end(&mut follower.ended, outcome)?;
     Ok(first_job)
 }
 
-fn replace_log<R: Files<File = File>>(
+fn replace_log<R: Files<File = File>, T: Threads + Sync>(
     rt: &R,
+    threads: &T,
     alloc: Global,
     follower: &mut StoreFollower,
     renewed: &Snapshot,
@@ -45,7 +49,7 @@ fn replace_log<R: Files<File = File>>(
     let position = find_position(alloc, renewed)?;
     let run = renewed.config().base().run();
     let own = StartRecord::new(read_boot_id(rt), follower.mode, run);
-    let begun = write_log(rt, alloc, follower, renewed, &own)?;
+    let begun = write_log(rt, threads, alloc, follower, renewed, &own)?;
     if let Err(error) = follower.paths.replace_log(rt) {
         return Err(sync_fault(StorePart::Log, error));
     }
@@ -59,8 +63,9 @@ fn replace_log<R: Files<File = File>>(
 }
 
 /// Writes the log of a renewed channel beside the old one, and makes it durable.
-fn write_log<R: Files<File = File>>(
+fn write_log<R: Files<File = File>, T: Threads + Sync>(
     rt: &R,
+    threads: &T,
     alloc: Global,
     follower: &StoreFollower,
     renewed: &Snapshot,
@@ -71,7 +76,7 @@ fn write_log<R: Files<File = File>>(
         Err(error) => return Err(write_fault(StorePart::Log, error)),
     };
     let mut begun = begin_new_log(alloc, disk, renewed, follower.next_ids, own)?;
-    append_entries(alloc, &mut begun.log, renewed)?;
+    append_entries(threads, alloc, &mut begun.log, renewed)?;
     sync_log(&mut begun.log)?;
     append_point(&mut begun.log, alloc, &mut begun.point_end)?;
     sync_log(&mut begun.log)?;
@@ -107,8 +112,9 @@ fn make_first_body(alloc: Global, renewed: &Snapshot, boot: [u8; 16]) -> Result<
     into_bytes(make_channel_body(alloc, config, &header)?)
 }
 
-/// Appends the records of all entries of a channel. Their media are stored already.
-fn append_entries(
+/// Appends the records of all entries of a channel, which several threads make. Their media are stored already.
+fn append_entries<T: Threads + Sync>(
+    threads: &T,
     alloc: Global,
     log: &mut Log<LogFile>,
     renewed: &Snapshot,
@@ -117,10 +123,11 @@ fn append_entries(
         version: 0,
         counts: vec![in alloc; 0u64; RENDITIONS]?,
     };
-    'batches: while position.version < renewed.version() {
-        let batch = make_batch(alloc, renewed, &position, BATCH_ENTRIES)?;
-        append_records(log, alloc, &batch.bodies)?;
-        position = batch.position;
+    'rounds: while position.version < renewed.version() {
+        let starts = find_parts(alloc, renewed, &mut position)?;
+        for part in make_parts(threads, alloc, renewed, &starts)? {
+            append_records(log, alloc, &part?.bodies)?;
+        }
     }
     Ok(())
 }

@@ -133,7 +133,7 @@ pub fn open_store<R: Files<File = File> + Threads + Sync>(
 }
 
 /// Renews a channel whose log is long. One that can't be renewed keeps its log.
-fn shorten_log<R: Files<File = File>>(
+fn shorten_log<R: Files<File = File> + Threads + Sync>(
     rt: &R,
     alloc: Global,
     opened: &mut OpenedStore,
@@ -144,7 +144,7 @@ fn shorten_log<R: Files<File = File>>(
     let Ok(renewed) = renew_channel(alloc, &opened.snapshot) else {
         return Ok(());
     };
-    opened.start.first_job = renew_store(rt, alloc, &mut opened.follower, &renewed)?;
+    opened.start.first_job = renew_store(rt, rt, alloc, &mut opened.follower, &renewed)?;
     opened.snapshot = renewed;
     Ok(())
 }

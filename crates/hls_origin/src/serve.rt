@@ -4,4 +4,5 @@ mod generate_run;
 pub mod journal_follower;
 pub mod load_base;
 pub mod open_journal;
+pub mod renew_log;
 pub mod run;

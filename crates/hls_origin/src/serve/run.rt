@@ -3,9 +3,10 @@ ghost use Rattle.std.specs.Prelude.{map};
 ghost use Rattle.hls_origin.specs.ServeRun.{EndsServe, IsServed};
 
 use crate::serve::generate_run::generate_run;
-use crate::serve::journal_follower::{JournalFollower, NextStart};
+use crate::serve::journal_follower::JournalFollower;
 use crate::serve::load_base::{BaseFileFault, load_base};
 use crate::serve::open_journal::{ChannelJournal, ChannelStart, JournalStop, open_journal};
+use crate::serve::renew_log::{LastState, NextStart};
 use hls_core::base::Base;
 use hls_core::snapshot::Snapshot;
 use hls_housekeeper::{OperatorLog, log_listening};
@@ -160,19 +161,34 @@ where
     };
     for _ in rt.forever() {
         let mut next = None;
-        let start = start_server(host, alloc, channel, &mut journal, &mut next);
+        let start = start_server(rt, host, alloc, channel, &mut journal, &mut next);
         if run_server(rt, alloc, settings, listener, None, start).is_err() {
             return ServeEnd::Memory;
         }
-        let Some(next) = next else {
+        let Some(last) = next else {
             return ServeEnd::Done;
         };
+        let next = continue_channel(rt, host, alloc, &mut journal, last);
         channel = match ServerChannel::from_next(next) {
             Some(channel) => channel,
             None => return ServeEnd::Memory,
         };
     }
     unreachable!()
+}
+
+/// Replaces the log of a channel between two servers. Returns what the next one starts with.
+fn continue_channel<T: Threads + Sync>(
+    threads: &T,
+    host: &HostRuntime,
+    alloc: Global,
+    journal: &mut Option<ChannelJournal>,
+    last: LastState,
+) -> NextStart {
+    match journal {
+        Some(journal) => last.renew_log(threads, host, alloc, &mut journal.follower),
+        None => last.continue_log(),
+    }
 }
 
 /// The channel that a server starts with.
@@ -203,16 +219,18 @@ impl ServerChannel {
 }
 
 /// Returns the journal of a server that follows a channel whose journal isn't lost.
-fn server_journal<'a>(
+fn server_journal<'a, T: Threads + Sync>(
+    threads: &'a T,
     host: &'a HostRuntime,
     alloc: Global,
     (first_job, renew_from): (u64, u64),
     journal: &'a mut ChannelJournal,
-    next: &'a mut Option<NextStart>,
-) -> ServerJournal<JournalFollower<'a>> {
+    next: &'a mut Option<LastState>,
+) -> ServerJournal<JournalFollower<'a, T>> {
     let sync_interval_ms = journal.sync_interval_ms;
     let refuses_if_lost = journal.refuses_if_lost;
     let follower = JournalFollower {
+        threads,
         host,
         alloc,
         follower: &mut journal.follower,
@@ -231,14 +249,15 @@ fn server_journal<'a>(
     }
 }
 
-/// Returns what the server of a channel starts with. It leaves in `next` what the next one starts with.
-fn start_server<'a>(
+/// Returns what the server of a channel starts with. It leaves the last state in `next` if the log is to be replaced.
+fn start_server<'a, T: Threads + Sync>(
+    threads: &'a T,
     host: &'a HostRuntime,
     alloc: Global,
     channel: ServerChannel,
     journal: &'a mut Option<ChannelJournal>,
-    next: &'a mut Option<NextStart>,
-) -> ServerStart<'a, JournalFollower<'a>> {
+    next: &'a mut Option<LastState>,
+) -> ServerStart<'a, JournalFollower<'a, T>> {
     let ServerChannel {
         snapshot,
         first_job,
@@ -250,7 +269,7 @@ fn start_server<'a>(
         Some(journal) if is_lost => (journal.refuses_if_lost, None),
         Some(journal) => (
             false,
-            Some(server_journal(host, alloc, (first_job, renew_from), journal, next)),
+            Some(server_journal(threads, host, alloc, (first_job, renew_from), journal, next)),
         ),
     };
     ServerStart {

@@ -1,8 +1,5 @@
 use Rattle.std.proofs.Common.{◌-◌, ◌≤◌, length}
 use Rattle.hls_journal_store.proofs.renewal.append_entries.Given as goal
 
-abbrev pub invariant-batches : goal.invariant-batches
-invariant-batches l = l.position.version ≤ length l.renewed.log
-
-abbrev pub decreases-batches : goal.decreases-batches
-decreases-batches l = length l.renewed.log - l.position.version
+abbrev pub decreases-rounds : goal.decreases-rounds
+decreases-rounds g l = length l.renewed.log - l.position.version

@@ -1,6 +1,7 @@
 use Rattle.std.proofs.Common.{◌-◌, ◌<◌, ◌≤◌, ◌≡◌}
 use Rattle.std.specs.Prelude.{max}
 use Rattle.hls_journal_store.specs.declared.sync_mode.SyncMode.TheVariants.{Each}
+use Rattle.hls_journal_store.specs.Batches.{IsNext}
 use Rattle.hls_journal_store.specs.Followed.{Grows, IsDurable}
 use Rattle.hls_journal_store.proofs.follower.Follower.write_news.Given as goal
 
@@ -11,6 +12,7 @@ invariant-batches g l =
     × Grows l.snapshot l.fn.self.position l.self.position l.fn.self.log.next l.self.log.next l.fn.self.log.end l.self.log.end (g.D.Disk.seen l.fn.self.log.disk) (g.D.Disk.seen l.self.log.disk)
     × (l.fn.self.mode ≡ Each → l.fn.self.position.version < l.self.position.version
     → IsDurable l.snapshot l.fn.self.position l.self.position l.fn.self.log.next l.fn.self.log.end (g.D.Disk.seen l.fn.self.log.disk) (g.D.Disk.may_leave l.self.log.disk))
+    × IsNext l.snapshot l.self.position l.batch
 
 abbrev pub decreases-batches : goal.decreases-batches
 decreases-batches g l = l.version - l.self.position.version
