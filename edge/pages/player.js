@@ -17,6 +17,7 @@ const SHUNNED = 60; // seconds for which a rendition that fails is left for anot
 const MISPLACED = 1.5; // seconds; renditions of one place lie nearer to each other
 const FIRST_RATE = 3000000; // bits a second that a network is taken to bear until it was measured
 const STANDS = 3; // seconds without a new picture after which a message says so
+const STUCK = 6; // .. after which what can't be shown is passed over, if more is there
 
 const sleep = (seconds) => new Promise((done) => { setTimeout(done, 1000 * seconds); });
 const once = (target, name) => new Promise((done) => { target.addEventListener(name, done, { once: true }); });
@@ -221,7 +222,7 @@ class Track {
 export class Player {
     constructor(video, say, bad) {
         Object.assign(this, { video, say, bad, line: new Line(), tracks: [], shifts: new Map(), ahead: AHEAD, goal: null, rate: 0, automatic: true });
-        Object.assign(this, { faults: new Map(), begun: false, closed: false, waiting: [], stand: { at: -1, since: 0 } });
+        Object.assign(this, { faults: new Map(), begun: false, closed: false, waiting: [], stand: { at: -1, since: 0 }, rest: { at: -1, since: 0 } });
     }
 
     // What is seen, or will be once it is there.
@@ -335,8 +336,9 @@ export class Player {
         // browsers stop a little before the end of what they hold
         const rest = this.stood() > 0.7 ? 1 : 0.1;
         const range = ranges.find(([, end]) => end > at + rest);
-        if (range && range[0] <= at + 0.05) this.arrive(at);
-        else if (range && this.isLoadedUpTo(range[0])) this.arrive(range[0] + 0.01, true);
+        const isStuck = this.unmoved() > STUCK;
+        if (range && range[0] <= at + 0.05) this.arrive(isStuck ? Math.min(at + 0.5, range[1] - 0.05) : at, isStuck);
+        else if (range && (this.isLoadedUpTo(range[0]) || (isStuck && this.tracks.every((track) => !track.next())))) this.arrive(range[0] + 0.01, true);
         else if (!range && at < line.start - 1) {
             this.say("That part isn't kept any more; the first that is comes next.", 8);
             this.goal = line.start;
@@ -352,6 +354,13 @@ export class Player {
         const { video: { currentTime, paused, readyState, ended }, stand } = this;
         if (currentTime !== stand.at || paused || ended || readyState > 2 || this.goal !== null) this.stand = { at: currentTime, since: performance.now() };
         return (performance.now() - this.stand.since) / 1000;
+    }
+
+    // For how many seconds it hasn't moved, whatever the browser says of what it has.
+    unmoved() {
+        const { video: { currentTime, paused, ended }, rest } = this;
+        if (currentTime !== rest.at || paused || ended || this.goal !== null) this.rest = { at: currentTime, since: performance.now() };
+        return (performance.now() - this.rest.since) / 1000;
     }
 
     // A picture that stands, though nothing has failed, is explained as long as it does.
