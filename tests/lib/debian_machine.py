@@ -8,14 +8,21 @@ import time
 
 from harness import ROOT, check
 
+# What START.md's last command calls: plays for eight seconds, and says how many pictures there were.
+PLAYER = """#!/bin/bash
+exec ffmpeg -nostdin -v error -stats "${@:1:$#-1}" -i "${@: -1}" -t 8 -map 0:v:0 -map '0:a:0?' -f null - 2>&1 | tr '\\r' '\\n' | tail -3
+"""
+
 
 class Machine:
     """A booted Debian, by its own systemd's process."""
 
-    def __init__(self, root):
+    def __init__(self, root, network=None):
         self.root = root
+        # one with a name outlives the machine, and so do viewers in it
+        words = f"--network-namespace-path=/run/netns/{network}" if network else "--private-network"
         # a machine has the call that keep_sockets makes; systemd-nspawn refuses it
-        self.nspawn = subprocess.Popen(["systemd-nspawn", "--quiet", "--boot", "-D", root, "--private-network", "--register=no", "--keep-unit", "--system-call-filter=pidfd_getfd"],
+        self.nspawn = subprocess.Popen(["systemd-nspawn", "--quiet", "--boot", "-D", root, words, "--register=no", "--keep-unit", "--system-call-filter=pidfd_getfd"],
                                        stdin=subprocess.DEVNULL, stdout=subprocess.DEVNULL, stderr=subprocess.DEVNULL)
         self.leader, self.senders = None, {}
         for _ in range(100):
