@@ -44,7 +44,7 @@ def init_section(kind="video", scale=90000):
 
 
 def unit(start, ticks, size, fill=0xaa, sync=True):
-    """A unit of one sample, of so many bytes in all."""
+    """A unit of one sample, of the given number of bytes in all."""
     fragment = box(b"traf", words(b"tfhd", 0x20000, 1), box(b"tfdt", b"\1\0\0\0", struct.pack(">Q", start)),
                    words(b"trun", 0x701, 1, 108, ticks, size - 108, 0x02000000 if sync else 0x01010000))
     return box(b"moof", words(b"mfhd", 0, 1), fragment) + box(b"mdat", bytes([fill]) * (size - 108))
