@@ -166,7 +166,7 @@ impl WorkerLoads {
     }
 
     /// Has the workers end from this moment of the monotonic clock on: they accept no more connections, close one once it has no request
-    /// or, after 40 ms, is between two parts of an endless one, and the others after half a second. Each connection gets turns until
+    /// or, after 40 ms, is between two parts of an endless one, and the others after a quarter of a second. Each connection gets turns until
     /// then. Any thread may call this.
     pub fn end(&self, now_ms: u64) {
         if self.ending_since_ms().is_none() {

@@ -19,7 +19,7 @@ use std::time::{Clock, Duration};
 const LONGEST_WAIT_MS: u64 = 1000;
 
 /// The retry interval after a fault that passes, in milliseconds.
-const RETRY_MS: u64 = 1000;
+const RETRY_MS: u64 = 250;
 
 /// How many attempts in a row fail before the channel continues without its journal: nothing is sent meanwhile.
 const MOST_FAILURES: u64 = 5;

@@ -9,7 +9,7 @@ use crate::handler::Handler;
 use crate::slot::Slot;
 
 /// How long requests and responses may take once the workers are to end, in milliseconds.
-const LAST_RESPONSES_MS: u64 = 500;
+const LAST_RESPONSES_MS: u64 = 250;
 
 /// How long a request without an end of its own may take to end, if it is between two parts, in milliseconds.
 const LAST_PARTS_MS: u64 = 40;
@@ -27,7 +27,7 @@ enum Ending {
 
 /// How a connection ends, this many milliseconds after its worker was to end. What it has received is read first.
 fn find_ending<H: Handler>(slot: &Slot<H::Connection>, handler: &H, passed_ms: u64) -> Ending
-    ensures { result ≡ Ending.CutShort → passed_ms < 500 → H.between_parts slot.now.connection }
+    ensures { result ≡ Ending.CutShort → passed_ms < 250 → H.between_parts slot.now.connection }
 {
     if slot.activity.stage == ConnectionStage::Idle {
         return Ending::Idle;

@@ -53,7 +53,7 @@ pub fn log_fault(host: &HostRuntime, logged_at_ms: &AtomicU64, fault: StoreFault
     }
     if may_log(logged_at_ms, monotonic_ms(host)) {
         let level = log.warning_prefix();
-        let _ = eprintln!(host; "{level}serve: journal: {fault}, tried again every second");
+        let _ = eprintln!(host; "{level}serve: journal: {fault}, tried again a few times");
     }
     FollowFault::Retry
 }
