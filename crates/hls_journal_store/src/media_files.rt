@@ -32,7 +32,7 @@ impl MediaFiles {
         let mut kept = Vec::new(alloc);
         for rendition in 0..renditions {
             let folder = format!(in alloc; "{folder}/{rendition}")?;
-            tracks.push(MediaTrack::new(folder, starts.get(rendition)))?;
+            tracks.push(MediaTrack::new(alloc, folder, starts.get(rendition)))?;
             kept.push(0)?;
         }
         Ok(MediaFiles {
@@ -68,14 +68,23 @@ impl MediaFiles {
         }
         match mode {
             SyncMode::Each => self.sync(rt),
-            _ => Ok(()),
+            SyncMode::Timed => Ok(()),
+            SyncMode::Never => self.sync_left(),
         }
     }
 
-    /// Makes what was written durable.
-    pub(crate) fn sync<R: Files<File = File>>(&mut self, rt: &R) -> Result<(), StoreFault> {
+    /// Without a sync of its own a mode keeps no file open that is full.
+    fn sync_left(&mut self) -> Result<(), StoreFault> {
         for track in &mut self.tracks {
-            track.sync(rt, &self.folder)?;
+            track.sync_left()?;
+        }
+        Ok(())
+    }
+
+    /// Makes what was written durable, but for trimmed media.
+    pub(crate) fn sync<R: Files<File = File>>(&mut self, rt: &R) -> Result<(), StoreFault> {
+        for (track, kept) in self.tracks.iter_mut().zip(self.kept.iter()) {
+            track.sync(rt, &self.folder, *kept)?;
         }
         Ok(())
     }

@@ -1,5 +1,7 @@
 //! The media files of one rendition.
 
+ghost use Rattle.std.specs.Prelude.{◌≡◌};
+
 use crate::fault::{StoreFault, StorePart, sync_fault, write_fault};
 use crate::media_span::find_span;
 use std::alloc::{AllocError, Global};
@@ -7,6 +9,16 @@ use std::fs::{self, File};
 use std::io::{self, ErrorKind};
 use std::os::unix::fs::FileExt;
 use std::rt::Files;
+
+/// The most files of a rendition that wait for a sync after the next one was begun. Connections leave some files for the rest.
+const MOST_LEFT: usize = 8;
+
+/// A file that isn't written to any more, and has bytes that aren't synced.
+#[derive(Drop)]
+struct LeftFile {
+    number: u64,
+    file: File,
+}
 
 /// The media files of a rendition: those that a journal writes, in ascending order.
 #[derive(Drop)]
@@ -21,23 +33,32 @@ pub(crate) struct MediaTrack {
     number: u64,
     /// Whether it has bytes that aren't synced.
     unsynced: bool,
+    /// The files before it that have such bytes, in ascending order. To sync each one when the next is begun would hold back writes.
+    left: Vec<LeftFile>,
     /// Whether the folder has a file whose name isn't synced.
     renamed: bool,
     /// The first file that may still be there.
     first: u64,
+    /// The last file that is there; those after the one that is written to wait for later bytes.
+    last: u64,
+    /// How many files were begun since trimmed ones were last removed.
+    begun: u64,
 }
 
 impl MediaTrack {
     /// The files of a channel whose log begins after `start` bytes of units.
-    pub(crate) fn new(folder: String, start: u64) -> MediaTrack {
+    pub(crate) fn new(alloc: Global, folder: String, start: u64) -> MediaTrack {
         MediaTrack {
             folder,
             start,
             file: None,
             number: 0,
             unsynced: false,
+            left: Vec::new(alloc),
             renamed: false,
             first: find_span(start, 0).number,
+            last: 0,
+            begun: 0,
         }
     }
 
@@ -76,7 +97,7 @@ impl MediaTrack {
         }
     }
 
-    /// Makes the file of a number the one that is written to. One with bytes that aren't synced is synced before it is closed.
+    /// Makes the file of a number the one that is written to.
     fn select_file<R: Files<File = File>>(
         &mut self,
         rt: &R,
@@ -86,7 +107,7 @@ impl MediaTrack {
         if self.file.is_some() && self.number == number {
             return Ok(());
         }
-        self.sync_file()?;
+        self.leave_file()?;
         let path = media_path(alloc, &self.folder, number)?;
         let file = match open_to_write(rt, &self.folder, &path) {
             Ok(file) => file,
@@ -94,7 +115,33 @@ impl MediaTrack {
         };
         self.file = Some(file);
         self.number = number;
+        self.last = self.last.max(number);
+        self.begun = self.begun.saturating_add(1);
         self.renamed = true;
+        Ok(())
+    }
+
+    /// Ends the writes to a file. If it has bytes that aren't synced, it stays open until they are; if too many do, the first one is
+    /// synced.
+    fn leave_file(&mut self) -> Result<(), StoreFault> {
+        if !self.unsynced {
+            return Ok(());
+        }
+        if self.left.len() >= MOST_LEFT {
+            sync_media(&self.left.remove(0).file)?;
+        }
+        self.push_left()?;
+        self.unsynced = false;
+        Ok(())
+    }
+
+    fn push_left(&mut self) -> Result<(), AllocError> {
+        // without memory the file stays the one that is written to
+        self.left.reserve(1)?;
+        if let Some(file) = self.file.take() {
+            let number = self.number;
+            self.left.push(LeftFile { number, file })?;
+        }
         Ok(())
     }
 
@@ -103,20 +150,31 @@ impl MediaTrack {
             return Ok(());
         }
         if let Some(file) = &self.file {
-            if let Err(error) = file.sync_data() {
-                return Err(sync_fault(StorePart::Media, error));
-            }
+            sync_media(file)?;
         }
         self.unsynced = false;
         Ok(())
     }
 
-    /// Makes what was written durable, and the names of new files, also in the folder above.
+    /// Makes the files durable that aren't written to any more, and closes them.
+    pub(crate) fn sync_left(&mut self) -> Result<(), StoreFault> {
+        for left in &self.left {
+            sync_media(&left.file)?;
+        }
+        self.left.clear();
+        Ok(())
+    }
+
+    /// Makes what was written durable, but for files that end before the offset `kept`, which no start needs: and the names of new files,
+    /// also in the folder above.
     pub(crate) fn sync<R: Files<File = File>>(
         &mut self,
         rt: &R,
         parent: &str,
+        kept: u64,
     ) -> Result<(), StoreFault> {
+        self.drop_left(kept);
+        self.sync_left()?;
         self.sync_file()?;
         if self.renamed {
             sync_folder(rt, &self.folder)?;
@@ -137,6 +195,12 @@ impl MediaTrack {
         find_span(place, 0).number.min(self.number)
     }
 
+    /// Closes the files that end before an offset.
+    fn drop_left(&mut self, at: u64) {
+        let end = self.end_below(at);
+        self.left.retain(|left| left.number >= end);
+    }
+
     /// Removes the files that end before an offset. One that can't be removed is tried again in the next call.
     pub(crate) fn remove_below<R: Files<File = File>>(
         &mut self,
@@ -144,15 +208,37 @@ impl MediaTrack {
         alloc: Global,
         at: u64,
     ) -> Result<(), StoreFault> {
+        self.drop_left(at);
         let end = self.end_below(at);
         'files: while self.first < end {
-            let path = media_path(alloc, &self.folder, self.first)?;
-            if !is_removed(fs::remove_file(rt, &path)) {
+            if !self.remove_first(rt, alloc)? {
                 return Ok(());
             }
             self.first += 1;
         }
+        self.begun = 0;
         Ok(())
+    }
+
+    /// Removes the first file. Where several were begun since the last removal, as many but one get the next names instead: to write over
+    /// a file takes half as long as to write a new one. Returns whether it is gone.
+    fn remove_first<R: Files<File = File>>(
+        &mut self,
+        rt: &R,
+        alloc: Global,
+    ) -> Result<bool, AllocError>
+        ensures { self.new.first ≡ self.old.first }
+    {
+        let path = media_path(alloc, &self.folder, self.first)?;
+        let next = self.last.saturating_add(1);
+        if next.saturating_sub(self.number) >= self.begun {
+            return Ok(is_removed(fs::remove_file(rt, &path)));
+        }
+        let outcome = fs::rename(rt, &path, &media_path(alloc, &self.folder, next)?);
+        if outcome.is_ok() {
+            self.last = next;
+        }
+        Ok(is_removed(outcome))
     }
 }
 
@@ -196,6 +282,14 @@ fn open_to_write<R: Files<File = File>>(rt: &R, folder: &str, path: &str) -> io:
             options.open(rt, path)
         }
         opened => opened,
+    }
+}
+
+/// Makes the bytes of a media file durable.
+fn sync_media(file: &File) -> Result<(), StoreFault> {
+    match file.sync_data() {
+        Ok(()) => Ok(()),
+        Err(error) => Err(sync_fault(StorePart::Media, error)),
     }
 }
 
