@@ -169,8 +169,7 @@ def warnings_of(path: str, folder: str = FOLDER, memory: int | None = None) -> l
         found.append("INPUT: whoever reaches this port may send: add &passphrase=.. (10 to 79 characters)")
     memory = os.sysconf("SC_PHYS_PAGES") * os.sysconf("SC_PAGE_SIZE") if memory is None else memory
     channels = [values, *others(path, folder).values()]
-    # nginx's caches (docs/EDGE.md)
-    total = min(1 << 30, memory // 4) if any(one.get("EDGE") for one in channels) else 0
+    total = min(1 << 30, memory // 4) if any(one.get("EDGE") for one in channels) else 0     # nginx's caches (docs/EDGE.md)
     for one in channels:
         with contextlib.suppress(Wrong):
             total += in_bytes(need_of(one)[1])
