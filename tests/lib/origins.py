@@ -124,7 +124,7 @@ def push_real(port, seconds, size="320x180", more=(), paths=("/ingest/0", "/inge
 
 def browser_page(url, seconds, enough):
     """Opens a page of `edge/player.html` in Chromium without a window, and gives the last state that it said: the first that
-    is enough, or the one after so many seconds."""
+    is enough, or the one after that number of seconds."""
     import json
     import tempfile
     import threading
