@@ -18,6 +18,13 @@ use std::time::{Clock, Duration};
 /// How long the follower waits for a call, in milliseconds. Slides and trims don't call it, so it also looks by itself.
 const LONGEST_WAIT_MS: u64 = 1000;
 
+/// How long the follower sleeps after a round that wrote several events, in microseconds, so that the next one has more. Otherwise an
+/// encoder that sends without a pause wakes it for each unit or two, and each round has calls of its own.
+const GATHER_US: u64 = 500;
+
+/// The events of a round that takes long enough for others to arrive meanwhile.
+const LONG_ROUND: u64 = 16;
+
 /// The retry interval after a fault that passes, in milliseconds.
 const RETRY_MS: u64 = 250;
 
@@ -110,6 +117,14 @@ impl<'a> FollowerContext<'a> {
             &self.measurements.journal_lag,
             version.saturating_sub(durable),
         );
+    }
+
+    /// Sleeps if a round has written several events and wasn't long, given the version up to which the journal was durable before it.
+    fn gather<R: Clock>(&self, rt: &R, before: u64) {
+        let written = self.durability.read().version.saturating_sub(before);
+        if 1 < written && written < LONG_ROUND {
+            thread::sleep(rt, Duration::from_micros(GATHER_US));
+        }
     }
 
     /// Stores when the journal was synced last: by time, or with what was written last.
@@ -226,6 +241,7 @@ pub(crate) fn run_follower<R: Wait + Clock, F: StateFollower, H: ServerStatus>(
             .durability
             .wait_called(rt, interval_ms.min(LONGEST_WAIT_MS));
         let is_closed = status.is_closed();
+        let before = context.durability.read().version;
         context.durability.note_work(Some(monotonic_ms(rt)));
         let round = context.run_round(rt, follower, pass, synced_ms, is_closed);
         context.durability.note_work(None);
@@ -233,6 +249,7 @@ pub(crate) fn run_follower<R: Wait + Clock, F: StateFollower, H: ServerStatus>(
             Ok(Some(at)) => {
                 synced_ms = at;
                 context.note_synced(rt, at);
+                context.gather(rt, before);
                 failures = 0;
             }
             Ok(None) => return,
