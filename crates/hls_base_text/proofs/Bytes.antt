@@ -7,11 +7,12 @@ use Rattle.hls_base_text.specs.declared.base_line.BaseLine.TheVariants.{Bytes}
 use Rattle.hls_base_text.specs.declared.base_fault.BaseFault.{BaseFault}
 use Rattle.hls_base_text.specs.BaseText.{bytes_from, names_of, number_in, result_then}
 
--- one name, and those after it
+-- a list of names from number r on is one name and then the list from r + 1 on
 record Next (names : List (List ℕ)) (r : ℕ) : Type 0 where
   name : List ℕ
   is : drop r names ≡ name ∷ drop (suc r) names
 
+-- if r is below the number of names, there is such a name
 next-name : (names : List (List ℕ)) (r : ℕ) → r < length names → Next names r
 next-name [] r h = absurd (omega (arith, h))
 next-name (name ∷ names) zero h = record { name = name; is = refl }
@@ -19,15 +20,18 @@ next-name (name ∷ names) (suc r) h =
     let on = next-name names r (omega (arith, h)) in
     record { name = on.name; is = on.is }
 
+-- if r isn't below the number of names, none is left
 pub none-left : (names : List (List ℕ)) (r : ℕ) → length names ≤ r → drop r names ≡ []
 none-left [] zero h = refl
 none-left [] (suc r) h = refl
 none-left (name ∷ names) zero h = absurd (omega (arith, h))
 none-left (name ∷ names) (suc r) h = none-left names r (omega (arith, h))
 
+-- there is one name for each rendition
 pub named : (renditions : List Rendition) → length (names_of renditions) ≡ length renditions
 named renditions = length-map renditions (λ r. r.name)
 
+-- if the line of rendition r has a number, reading continues with the next rendition and that number stored
 pub bytes_next : (renditions : List Rendition) (lines : List (List ℕ)) (r : ℕ) (bytes : List ℕ) (n : ℕ) → r < length renditions →
     number_in (names_of renditions) (Bytes r) lines ≡ Ok n →
     bytes_from (names_of renditions) lines (drop r (names_of renditions)) r bytes
@@ -40,6 +44,7 @@ bytes_next renditions lines r bytes n h is =
     ∙ (ap (λ (o : Result ℕ BaseFault). result_then o (λ m. bytes_from names lines (drop (suc r) names) (suc r) (slice_set bytes r m))) is
     ∙ ap (λ (k : ℕ). bytes_from names lines (drop k names) k (slice_set bytes r n)) one)
 
+-- if the line of rendition r has a fault, that is the result
 pub bytes_stop : (renditions : List Rendition) (lines : List (List ℕ)) (r : ℕ) (bytes : List ℕ) (fault : BaseFault) → r < length renditions →
     number_in (names_of renditions) (Bytes r) lines ≡ Err fault →
     bytes_from (names_of renditions) lines (drop r (names_of renditions)) r bytes ≡ Err fault
@@ -49,6 +54,7 @@ bytes_stop renditions lines r bytes fault h is =
     ap (λ (l : List (List ℕ)). bytes_from names lines l r bytes) next.is
     ∙ ap (λ (o : Result ℕ BaseFault). result_then o (λ m. bytes_from names lines (drop (suc r) names) (suc r) (slice_set bytes r m))) is
 
+-- when no rendition is left, the result is the bytes that were read
 pub bytes_done : (renditions : List Rendition) (lines : List (List ℕ)) (r : ℕ) (bytes : List ℕ) → length renditions ≤ r →
     bytes_from (names_of renditions) lines (drop r (names_of renditions)) r bytes ≡ Ok bytes
 bytes_done renditions lines r bytes h =

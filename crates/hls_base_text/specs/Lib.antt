@@ -1,1 +1,2 @@
+-- The definition of the text of a base, and of the base that it gives.
 pub mod BaseText

@@ -4,11 +4,11 @@ use Rattle.std.proofs.lemmas.List.{drop-drop}
 use Rattle.hls_blocks.specs.Numbered.{Numbered, next_of, from_number, items_starting_at}
 use Rattle.hls_blocks.proofs.Runs.{run_within}
 
--- the next number is the tree's
+-- a list that begins within its tree has the tree's next number
 pub same_next : {T : Type 0} (tree : Numbered T) (first : ℕ) → tree.first ≤ first → first ≤ next_of tree → next_of (from_number tree first) ≡ next_of tree
 same_next tree first low high = omega (arith, length-drop (first - tree.first) tree.items)
 
--- the items from a number are the tree's
+-- the items from a number of the list on are the tree's items from there
 pub same_items : {T : Type 0} (tree : Numbered T) (first n : ℕ) → tree.first ≤ first → first ≤ n
     → items_starting_at (from_number tree first) n ≡ items_starting_at tree n
 same_items tree first n low high =
@@ -23,6 +23,7 @@ same_run {T = T} f tree list first n es list_is low at run =
     let from : first ≤ n = subst (λ (l : Numbered T). l.first ≤ n) list_is at in
     rw (list_is, same_items tree first n low from, same_items tree first (n + length es) low (omega arith)) run
 
+-- a run of the tree ends at or before the next number of the list
 pub same_run_within : {E T : Type 0} (f : E → T) (tree list : Numbered T) (first n : ℕ) (es : List E) → list ≡ from_number tree first → tree.first ≤ first
     → list.first ≤ n → n < next_of list → first ≤ next_of tree
     → items_starting_at tree n ≡ map f es ++ items_starting_at tree (n + length es) → n + length es ≤ next_of list

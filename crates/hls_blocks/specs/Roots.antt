@@ -3,6 +3,7 @@
 use Rattle.std.specs.Prelude.{◌≡◌, ℕ, ◌≤◌, Option, Some, None, []}
 use Rattle.hls_blocks.specs.Numbered.{Numbered, next_of, from_number}
 
+-- the list of a tree from the number `first` on; without a tree it has no items
 abbrev pub list_value : {A T : Type 0} → (A → Numbered T) → ℕ → Option A → Numbered T
 list_value value_of first None = record { first = first; items = [] }
 list_value value_of first (Some a) = from_number (value_of a) first

@@ -26,6 +26,7 @@ none-wants xs none = elim (cases_lt (length xs) 8) [
   ])
 ]
 
+-- a box with a complete header that is incomplete lacks bytes
 waits-if : (h : BoxHeader) (len : ℕ) (has_moof : Bool) (fault : Option BoxFault) → effect_of_checked_box h len has_moof fault ≡ Incomplete → len < h.size
 waits-if h len has_moof (Some fault) is = absurd (cc)
 waits-if h len has_moof None is = elim (cases_lt len h.size) [
@@ -38,6 +39,7 @@ waits-if h len has_moof None is = elim (cases_lt len h.size) [
       ]
 ]
 
+-- a box that is incomplete lacks bytes, given its header, if that is complete
 waits-by : (xs : List ℕ) (before : ℕ) (has_moof : Bool) (o : Option BoxHeader) → header_at xs ≡ o → effect_at xs before has_moof ≡ Incomplete → length xs < needed_len o (length xs)
 unfolding effect_at
 waits-by xs before has_moof None header is = none-wants xs header
@@ -47,7 +49,7 @@ waits-by xs before has_moof (Some h) header is = waits-if h (length xs) has_moof
 pub waits-wants : (xs : List ℕ) (before : ℕ) (has_moof : Bool) → effect_at xs before has_moof ≡ Incomplete → length xs < needed_len (header_at xs) (length xs)
 waits-wants xs before has_moof is = waits-by xs before has_moof (header_at xs) refl is
 
--- a text that grows no further than is needed isn't longer than the box
+-- a text that grows no further than its first box needs isn't longer than the box
 fits-by : (xs ys : List ℕ) (o : Option BoxHeader) (h : BoxHeader) → header_at xs ≡ o → header_at (xs ++ ys) ≡ Some h → h.head ≤ h.size
     → length (xs ++ ys) ≤ needed_len o (length xs) → length (xs ++ ys) ≤ h.size
 fits-by xs ys (Some k) h front whole fits long =
@@ -74,12 +76,14 @@ fits-by xs ys None h front whole fits long =
           ]
     ]
 
+-- a box that is as long as the bytes ends where they do
 ends-passed : (h : BoxHeader) (len : ℕ) (has_moof : Bool) → h.size ≡ len → EndsAt len (effect_of_box h has_moof)
 ends-passed h len has_moof is = elim (cases_Bool (is_end h.kind)) [
   | inl ends ↦ rw ends is
   | inr joins ↦ rw joins is
 ]
 
+-- if a text grows no further than its first box needs, the box, if it is complete, ends where the text does, by cases of the box
 at_box_end-by : (xs ys : List ℕ) (before : ℕ) (has_moof : Bool) (next : BoxEffect) → length (xs ++ ys) ≤ needed_len (header_at xs) (length xs) → Came (xs ++ ys) before has_moof next
     → EndsAt (length (xs ++ ys)) next
 at_box_end-by xs ys before has_moof next long (Waits is) = subst (EndsAt (length (xs ++ ys))) is tt
@@ -90,6 +94,6 @@ at_box_end-by xs ys before has_moof next long (Passes h box tail split one good 
     let size : h.size ≡ length (xs ++ ys) = omega (arith, fits, one.whole, ap length split, length-append box tail) in
     subst (EndsAt (length (xs ++ ys))) is (ends-passed h (length (xs ++ ys)) has_moof size)
 
--- if the box is then complete, it ends where the text does
+-- if a text grows no further than its first box needs, the box, if it is complete, ends where the text does
 pub at_box_end : (xs ys : List ℕ) (before : ℕ) (has_moof : Bool) → length (xs ++ ys) ≤ needed_len (header_at xs) (length xs) → EndsAt (length (xs ++ ys)) (effect_at (xs ++ ys) before has_moof)
 at_box_end xs ys before has_moof long = at_box_end-by xs ys before has_moof (effect_at (xs ++ ys) before has_moof) long (came (xs ++ ys) before has_moof)

@@ -14,6 +14,7 @@ use Rattle.hls_boxes.proofs.Walk.{children-empty, children-box}
 use Rattle.hls_boxes.proofs.KindLaws.{walks, limit_of_part, Good, fault_of-good, walks-joins, walks-ends}
 use Rattle.hls_boxes.proofs.Steps.{IsHeaderFault, fault_of-header, is_end, cut_at-joins, cut_at-ends, Stops, Refuses, Joining, Ending, turn, shorter, fault_of-fits}
 
+-- the part that a box ends has the bytes that it was given
 pub bytes_of-part_of : (kind : ℕ) (bytes : List ℕ) → bytes_of (part_of kind bytes) ≡ bytes
 bytes_of-part_of kind bytes = cond_both (kind == moov_type) (parts.Init bytes) (parts.Unit bytes) (λ p. bytes_of p ≡ bytes) (λ e. refl) (λ e. refl)
 
@@ -30,6 +31,7 @@ pub record First (before rest : List ℕ) (has_moof : Bool) (part : Part) : Type
   pub kinds : walks part has_moof (kinds_of boxes) ≡ true
   pub limit : length before + length front ≤ limit_of_part part
 
+-- if a box joins the part in progress, and a first part is cut from there, that is the first part from before the box
 first-joins : (h : BoxHeader) (before rest box behind : List ℕ) (has_moof : Bool) (part : Part) → rest ≡ box ++ behind → IsBox h box → Good h (length before) has_moof → is_end h.kind ≡ false
     → ((more : List ℕ) → cut_at before (box ++ more) has_moof ≡ cut_at (before ++ box) more (has_moof || h.kind == moof_type))
     → First (before ++ box) behind (has_moof || h.kind == moof_type) part → First before rest has_moof part
@@ -46,9 +48,11 @@ first-joins h before rest box behind has_moof part split one good joins goes f =
   limit = omega (arith, f.limit, length-append before box, length-append box f.front);
 }
 
+-- the limit of a part is that of the box that ends it
 part_limit : (kind : ℕ) (bytes : List ℕ) → limit_of_part (part_of kind bytes) ≡ limit_of kind
 part_limit kind bytes = elim (cases_Bool (kind == moov_type)) [ inl is ↦ rw is refl | inr not ↦ rw not refl ]
 
+-- if a box ends the part in progress, this is the first part
 first-ends : (h : BoxHeader) (before rest box behind : List ℕ) (has_moof : Bool) → rest ≡ box ++ behind → IsBox h box → Good h (length before) has_moof → is_end h.kind ≡ true → 0 < length box
     → ((more : List ℕ) → cut_at before (box ++ more) has_moof ≡ after_parts (part_of h.kind (before ++ box) ∷ []) (stream_cut more))
     → First before rest has_moof (part_of h.kind (before ++ box))
@@ -70,6 +74,7 @@ box-some : (h : BoxHeader) (rest box behind : List ℕ) → rest ≡ box ++ behi
 box-some h rest box behind split one fits =
     omega (arith, shorter h rest box behind split one fits, ap length split, length-append box behind)
 
+-- if a cut has a part, it has a first part, given a bound on the number of bytes
 pub first_within : (bound : ℕ) (before rest : List ℕ) (has_moof : Bool) (part : Part) (others : List Part) → length rest < bound
     → (cut_at before rest has_moof).parts ≡ part ∷ others → First before rest has_moof part
 first_within zero before rest has_moof part others less is = absurd (omega arith)
@@ -95,29 +100,34 @@ first_within (suc bound) before rest has_moof part others less is = elim (turn b
       (first-ends h before rest box behind has_moof split one (fault_of-good h (length before) has_moof good) ends (box-some h rest box behind split one fits) goes)
 ]
 
+-- if a text has a part, the first one is a prefix that boxes fill, and the rest is cut from there
 pub first_of : (bytes : List ℕ) (part : Part) (others : List Part) → (stream_cut bytes).parts ≡ part ∷ others → First [] bytes false part
 first_of bytes part others is = first_within (suc (length bytes)) [] bytes false part others (omega arith) is
 
--- a fault is that of a header, and is permanent
+-- a remainder that shows no fault
 abbrev pub IsOpen : Remainder → Type 0
 IsOpen Nothing = Unit {0}
 IsOpen (Boxes has_moof) = Unit {0}
 IsOpen CutShort = Unit {0}
 IsOpen (Refused fault) = ⊥
 
+-- the remainder for a part in progress shows no fault
 pub left_of-open : (before rest : ℕ) (has_moof : Bool) → IsOpen (rest_of_part before rest has_moof)
 left_of-open before rest has_moof =
     cond_both (nat_lt 0 rest) CutShort (if has_moof then Boxes true else (if nat_lt 0 before then Boxes false else Nothing)) IsOpen (λ e. tt) (λ e.
     cond_both has_moof (Boxes true) (if nat_lt 0 before then Boxes false else Nothing) IsOpen (λ e. tt) (λ e.
     cond_both (nat_lt 0 before) (Boxes false) Nothing IsOpen (λ e. tt) (λ e. tt)))
 
+-- the remainder for a part in progress isn't one of a faulty header
 pub left_of-goes : (before rest : ℕ) (has_moof : Bool) (fault : BoxFault) → rest_of_part before rest has_moof ≡ Refused fault → ⊥
 left_of-goes before rest has_moof fault is = subst IsOpen is (left_of-open before rest has_moof)
 
+-- the fault is that of a header, and the cut doesn't change when bytes follow
 pub record Stays (before rest : List ℕ) (has_moof : Bool) (fault : BoxFault) : Type 0 where
   pub header : IsHeaderFault fault
   pub stays : (more : List ℕ) → cut_at before (rest ++ more) has_moof ≡ cut_at before rest has_moof
 
+-- if a cut has a fault, it is that of a header, and the cut doesn't change when bytes follow, given a bound on the number of bytes
 refused_within : (bound : ℕ) (before rest : List ℕ) (has_moof : Bool) (fault : BoxFault) → length rest < bound
     → (cut_at before rest has_moof).left ≡ Refused fault → Stays before rest has_moof fault
 refused_within zero before rest has_moof fault less is = absurd (omega arith)
@@ -154,10 +164,11 @@ refused_within (suc bound) before rest has_moof fault less is = elim (turn befor
       }
 ]
 
+-- if a text has a fault, it is that of a header, and its cut doesn't change when bytes follow
 pub refused : (bytes : List ℕ) (fault : BoxFault) → (stream_cut bytes).left ≡ Refused fault → Stays [] bytes false fault
 refused bytes fault is = refused_within (suc (length bytes)) [] bytes false fault (omega arith) is
 
--- an open remainder has no fault
+-- a remainder that isn't one of a faulty header has no fault
 pub open-fault_left : (left : Remainder) → IsOpen left → fault_of_rest left ≡ None
 open-fault_left Nothing goes = refl
 open-fault_left (Boxes has_moof) goes = refl

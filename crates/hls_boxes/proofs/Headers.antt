@@ -6,6 +6,7 @@ use Rattle.std.proofs.lemmas.Bool.{cases_lt, cases_Bool, lt-ltb, le-ltb}
 use Rattle.hls_boxes.specs.declared.box_header.BoxHeader.{BoxHeader}
 use Rattle.hls_boxes.specs.Boxes.{number_at, header_at, short_header, long_header}
 
+-- sums of equal terms are equal
 sum_through-same : (f g : ℕ → ℕ) (n : ℕ) → ((i : ℕ) → i ≤ n → f i ≡ g i) → sum_through f n ≡ sum_through g n
 sum_through-same f g zero same = same zero (omega arith)
 sum_through-same f g (suc n) same =
@@ -22,12 +23,14 @@ number_at-append w at xs ys wide long =
     let low : i < length (drop at xs) = omega (arith, length-drop at xs) in
     ap (byte_worth (byte_len w - 1 - i)) (get_or_append_left (drop at xs) ys 0 i low)))
 
+-- a short header doesn't change when bytes follow it
 short_header-append : (xs ys : List ℕ) → 8 ≤ length xs → short_header (xs ++ ys) ≡ short_header xs
 short_header-append xs ys long =
     let kind : number_at w32 4 (xs ++ ys) ≡ number_at w32 4 xs = number_at-append w32 4 xs ys (omega arith) (omega arith) in
     let size : number_at w32 0 (xs ++ ys) ≡ number_at w32 0 xs = number_at-append w32 0 xs ys (omega arith) (omega arith) in
     rw (kind, size) refl
 
+-- a long header doesn't change when bytes follow it
 long_header-append : (xs ys : List ℕ) → 16 ≤ length xs → long_header (xs ++ ys) ≡ long_header xs
 long_header-append xs ys long =
     let kind : number_at w32 4 (xs ++ ys) ≡ number_at w32 4 xs = number_at-append w32 4 xs ys (omega arith) (omega arith) in
@@ -39,6 +42,7 @@ pub data Read (xs : List ℕ) (h : BoxHeader) : Type 0 where
   Short : 8 ≤ length xs → (number_at w32 0 xs == 1) ≡ false → short_header xs ≡ h → Read xs h
   Long : 16 ≤ length xs → (number_at w32 0 xs == 1) ≡ true → long_header xs ≡ h → Read xs h
 
+-- the header at the start of a text is a short or a long one, and complete
 pub header_at-read : (xs : List ℕ) (h : BoxHeader) → header_at xs ≡ Some h → Read xs h
 unfolding header_at
 header_at-read xs h is =
@@ -61,7 +65,7 @@ header_at-read xs h is =
       ]
     ]
 
--- and what is read so is the header
+-- a complete short or long header at the start of a text is the text's header
 pub read-header_at : (xs : List ℕ) (h : BoxHeader) → Read xs h → header_at xs ≡ Some h
 unfolding header_at
 read-header_at xs h (Short long other is) =
@@ -81,7 +85,7 @@ header_at-append xs ys h is = read-header_at (xs ++ ys) h (elim (header_at-read 
       Long (omega (arith, length-append xs ys)) (rw number one) (long_header-append xs ys longer ∙ same)
 ])
 
--- it is determined by its own bytes
+-- a header at the start of a text is also that of each prefix that contains it
 pub header_at-front : (xs ys : List ℕ) (h : BoxHeader) → header_at (xs ++ ys) ≡ Some h → h.head ≤ length xs → header_at xs ≡ Some h
 header_at-front xs ys h is in_front = read-header_at xs h (elim (header_at-read (xs ++ ys) h is) [
   | Short long other same ↦

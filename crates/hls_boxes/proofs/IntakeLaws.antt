@@ -36,6 +36,7 @@ reaches-grown old new more grown at moof r = record {
       ∙ ap (λ (xs : List ℕ). cut_at xs (drop old.at (old.bytes.items ++ more) ++ last) old.has_moof) (sym (take-append-le old.at old.bytes.items more r.within)));
 }
 
+-- when bytes are appended, they follow the bytes that aren't consumed yet
 open-grown : (old new : PendingPart) (more : List ℕ) → new.bytes.items ≡ old.bytes.items ++ more → new.at ≡ old.at → IsPendingPart old → open_box new ≡ open_box old ++ more
 open-grown old new more grown at r = rw (grown, at) (drop-append-le old.at old.bytes.items more r.within)
 
@@ -43,7 +44,7 @@ open-grown old new more grown at r = rw (grown, at) (drop-append-le old.at old.b
 pub wants-some : (pending : PendingPart) → NeedsMoreBytes pending → 0 < needed_len (header_at (open_box pending)) (length (open_box pending)) - length (open_box pending)
 wants-some pending w = omega (arith, waits-wants (open_box pending) pending.at pending.has_moof w.last)
 
--- no more bytes came than were missing, so no byte follows the box
+-- if no more bytes are appended than the next box lacks, the box, if it is complete, ends where the bytes do
 pub at_box_end-grown : (old new : PendingPart) (more : List ℕ) → new.bytes.items ≡ old.bytes.items ++ more → new.at ≡ old.at → new.has_moof ≡ old.has_moof → NeedsMoreBytes old
     → length more ≤ needed_len (header_at (open_box old)) (length (open_box old)) - length (open_box old) → EndsAtBox new
 at_box_end-grown old new more grown at moof w few =
@@ -51,10 +52,11 @@ at_box_end-grown old new more grown at moof w few =
     let long : length (open_box old ++ more) ≤ needed_len (header_at (open_box old)) (length (open_box old)) = omega (arith, few, longer, length-append (open_box old) more) in
     rw (open-grown old new more grown at w.is_pending, at, moof) (at_box_end (open_box old) more old.at old.has_moof long)
 
+-- the next box has the same effect for the cut of the part in progress
 next-at : (pending : PendingPart) → IsPendingPart pending → effect_at (open_box pending) (length (take pending.at pending.bytes.items)) pending.has_moof ≡ next_effect pending
 next-at pending r = ap (λ (n : ℕ). effect_at (open_box pending) n pending.has_moof) (length-take-le pending.at pending.bytes.items r.within)
 
--- a box that joins the part in progress
+-- after a complete box at the end of the bytes joins the part in progress, that part needs more bytes
 pub joins : (old new : PendingPart) (size : ℕ) → IsPendingPart old → EndsAtBox old → next_effect old ≡ Continues new.has_moof size → new.bytes.items ≡ old.bytes.items → new.at ≡ old.at + size → NeedsMoreBytes new
 unfolding effect_at header_at
 joins old new size r even_box is bytes at =
@@ -73,7 +75,7 @@ joins old new size r even_box is bytes at =
       last = rw none refl;
     }
 
--- a box that ends it
+-- a complete box at the end of the bytes that ends the part in progress makes it a complete part
 pub ends : (old : PendingPart) (whole : CompletePart) (size : ℕ) → IsPendingPart old → EndsAtBox old → next_effect old ≡ Ends whole.kind size → complete_part_bytes whole ≡ old.bytes.items → IsCompletePart whole
 ends old whole size r even_box is bytes =
     let p = next-ends (take old.at old.bytes.items) (open_box old) old.has_moof whole.kind size (next-at old r ∙ is) in
@@ -88,18 +90,18 @@ ends old whole size r even_box is bytes =
           ∙ ap (λ (xs : List ℕ). after_parts (part_of whole.kind (complete_part_bytes whole) ∷ []) (stream_cut (xs ++ more))) none;
     }
 
--- a faulty header
+-- a faulty header is the fault of the part in progress
 pub refuses : (pending : PendingPart) (fault : BoxFault) → IsPendingPart pending → next_effect pending ≡ Fault fault → IsPendingWithFault pending (Some fault)
 refuses pending fault r is =
     ap stream_cut (sym (append-nil pending.bytes.items)) ∙ r.extends [] ∙ ap (λ (xs : List ℕ). cut_at (take pending.at pending.bytes.items) xs pending.has_moof) (append-nil (open_box pending))
     ∙ next-fault (take pending.at pending.bytes.items) (open_box pending) pending.has_moof fault (next-at pending r ∙ is)
 
--- which is permanent, whatever follows
+-- the fault of a part in progress is permanent, whatever follows
 pending_is-grown : (old new : PendingPart) (more : List ℕ) (fault : BoxFault) → new.bytes.items ≡ old.bytes.items ++ more → IsPendingWithFault old (Some fault) → IsPendingWithFault new (Some fault)
 pending_is-grown old new more fault grown pending_is =
     ap stream_cut grown ∙ (refused old.bytes.items fault (ap (λ c. c.left) pending_is)).stays more ∙ pending_is
 
--- a box was examined, and no part ended
+-- a box that was examined and ended no part appends no complete part
 pub passes-none : (old new : PendingPart) (before whole : List CompletePart) (fault : Option BoxFault) → new.bytes.items ≡ old.bytes.items → whole ≡ before → IsPendingWithFault new fault → AppendsPiece old before [] fault new whole
 passes-none old new before whole fault bytes queue pending_is = record {
   parts = [];
@@ -111,7 +113,7 @@ passes-none old new before whole fault bytes queue pending_is = record {
   pending_is = pending_is;
 }
 
--- or one did
+-- a box that was examined and ended the part in progress appends one complete part
 pub passes-one : (old new : PendingPart) (before after : List CompletePart) (whole : CompletePart) → complete_part_bytes whole ≡ old.bytes.items → IsCompletePart whole → new.bytes.items ≡ [] → after ≡ before ++ whole ∷ [] → NeedsMoreBytes new
     → AppendsPiece old before [] None new after
 passes-one old new before after whole bytes is none queue waits = record {
@@ -124,18 +126,21 @@ passes-one old new before after whole bytes is none queue waits = record {
   pending_is = waits;
 }
 
+-- two lists of complete parts, joined, are complete parts
 pub whole-append : (before parts : List CompletePart) → AreCompleteParts before → AreCompleteParts parts → AreCompleteParts (before ++ parts)
 whole-append [] parts each others = others
 whole-append (whole ∷ before) parts each others = (each.0, whole-append before parts each.1 others)
 
--- nothing was consumed yet
+-- before a byte of a piece is consumed, no part and no bytes were appended
 pub takes-nothing : (old : PendingPart) (before : List CompletePart) → NeedsMoreBytes old → AppendsPiece old before [] None old before
 takes-nothing old before waits = passes-none old old before before None refl refl waits
 
+-- the bytes are the old ones, and perhaps more
 record Grows (bytes old : List ℕ) : Type 0 where
   more : List ℕ
   first : bytes ≡ old ++ more
 
+-- the first part since then has the old bytes in front, also after more bytes and more parts
 first-grown : (parts others : List CompletePart) (mid grown new : PendingPart) (old more xs ys : List ℕ) → first_bytes parts mid ≡ old ++ more → grown.bytes.items ≡ mid.bytes.items ++ xs
     → first_bytes others new ≡ grown.bytes.items ++ ys → Grows (first_bytes (parts ++ others) new) old
 first-grown [] others mid grown new old more xs ys first is then = record {
@@ -144,7 +149,7 @@ first-grown [] others mid grown new old more xs ys first is then = record {
 }
 first-grown (whole ∷ parts) others mid grown new old more xs ys first is then = record { more = more; first = first }
 
--- bytes were appended, and the box was examined
+-- if bytes of a piece were consumed, and more of them are appended and examined, all of them were consumed
 pub takes-more : (old mid grown new : PendingPart) (before between whole : List CompletePart) (taken xs : List ℕ) (fault : Option BoxFault)
     → AppendsPiece old before taken None mid between → grown.bytes.items ≡ mid.bytes.items ++ xs → AppendsPiece grown between [] fault new whole → AppendsPiece old before (taken ++ xs) fault new whole
 takes-more old mid grown new before between whole taken xs fault t is u =
@@ -161,7 +166,7 @@ takes-more old mid grown new before between whole taken xs fault t is u =
       pending_is = u.pending_is;
     }
 
--- after a fault the rest of the piece is kept
+-- if a fault was found in a piece, and the rest of the piece is appended, the whole piece was consumed, with that fault
 pub takes-rest : (old mid new : PendingPart) (before whole : List CompletePart) (taken xs : List ℕ) (fault : BoxFault)
     → AppendsPiece old before taken (Some fault) mid whole → new.bytes.items ≡ mid.bytes.items ++ xs → AppendsPiece old before (taken ++ xs) (Some fault) new whole
 takes-rest old mid new before whole taken xs fault t is =
@@ -177,15 +182,16 @@ takes-rest old mid new before whole taken xs fault t is =
       pending_is = pending_is-grown mid new xs fault is t.pending_is;
     }
 
--- so something was added, whatever part of the piece was consumed
+-- if some bytes of a piece were consumed, parts were appended, and the part that was in progress has more bytes
 pub adds : (old new : PendingPart) (before whole : List CompletePart) (taken : List ℕ) (fault : Option BoxFault)
     → AppendsPiece old before taken fault new whole → AppendsParts old before new whole
 adds old new before whole taken fault t = record { parts = t.parts; queued = t.queued; more = t.more; first = t.first }
 
--- what is left when it is removed
+-- without the parts that were appended, the parts are those from before
 back-parts : (before parts whole : List CompletePart) (n : ℕ) → n ≡ length before → whole ≡ before ++ parts → take n whole ≡ before
 back-parts before parts whole n len queue = rw (len, queue) (take-append-le (length before) before parts (omega arith) ∙ take-length before)
 
+-- the numbers of parts and of bytes from before suffice to restore the parts and the bytes of the part in progress
 pub taken-back : (old new : PendingPart) (before whole : List CompletePart) (n len : ℕ) → n ≡ length before → len ≡ length old.bytes.items → AppendsParts old before new whole
     → (take n whole ≡ before) × (take len (first_bytes (drop n whole) new) ≡ old.bytes.items)
 taken-back old new before whole n len is same a = (
@@ -199,10 +205,12 @@ pub piece-is : (piece taken rest more tail : List ℕ) (n : ℕ) → piece ≡ t
 piece-is piece taken rest more tail n is front back =
     is ∙ ap (λ (xs : List ℕ). taken ++ xs) (sym (take-append-drop n rest) ∙ rw (front, back) refl) ∙ sym (append_assoc taken more tail)
 
+-- a list that isn't empty has a length above 0
 pub not_empty : (rest : List ℕ) → false ≡ (length rest == 0) → 0 < length rest
 not_empty [] is = absurd (cc)
 not_empty (byte ∷ others) is = omega arith
 
+-- what holds anyway holds if a result is an error
 pub any_error : {T E : Type 0} {P : Type 0} (r : Result T E) → P → OnErr r P
 any_error (Ok x) p = tt
 any_error (Err e) p = p

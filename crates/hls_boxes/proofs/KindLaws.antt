@@ -11,7 +11,7 @@ use Rattle.hls_boxes.specs.Parts.{fault_of, limit_of, part_of}
 use Rattle.hls_boxes.proofs.KindTests.{is_last, ends_init, ends_unit, has_unit}
 use Rattle.hls_boxes.proofs.Steps.{is_end}
 
--- each type is one of the three that the cut distinguishes, or loose
+-- what holds of the three types that the cut distinguishes, and of each other type, holds of each type
 pub by_kind : (k : ℕ) (P : ℕ → Type 0) → P moov_type → P moof_type → P mdat_type
     → ((k == moov_type) ≡ false → (k == moof_type) ≡ false → (k == mdat_type) ≡ false → P k) → P k
 by_kind k P moov moof mdat loose =
@@ -26,13 +26,14 @@ by_kind k P moov moof mdat loose =
       ]
     ]
 
--- the rest of a part, after a `moof` or before one
+-- boxes of these types complete a part of this kind, after a `moof` or before one
 abbrev pub walks : Part → Bool → List ℕ → Bool
 walks (parts.Init bytes) false kinds = ends_init kinds
 walks (parts.Init bytes) true kinds = false
 walks (parts.Unit bytes) false kinds = has_unit kinds
 walks (parts.Unit bytes) true kinds = ends_unit kinds
 
+-- the limit of a part by its kind, in bytes
 abbrev pub limit_of_part : Part → ℕ
 limit_of_part (parts.Init bytes) = init_limit
 limit_of_part (parts.Unit bytes) = unit_limit
@@ -44,13 +45,16 @@ pub record Good (h : BoxHeader) (before : ℕ) (has_moof : Bool) : Type 0 where
   pub moof : ((h.kind == moof_type || h.kind == moov_type) && has_moof) ≡ false
   pub limit : before + h.size ≤ limit_of h.kind
 
+-- if a chain of tests finds no fault, its first test doesn't hold, and the others find none
 if-none : (b : Bool) (fault : BoxFault) (o : Option BoxFault) → (if b then Some fault else o) ≡ None → (b ≡ false) × (o ≡ None)
 if-none true fault o is = absurd (cc)
 if-none false fault o is = (refl, is)
 
+-- a number that isn't below another is at least as great
 ltb-le : (a b : ℕ) → nat_lt a b ≡ false → b ≤ a
 ltb-le a b is = elim (cases_lt a b) [ inl lt ↦ let no : true ≡ false = sym (lt-ltb a b lt) ∙ is in absurd (cc) | inr le ↦ le ]
 
+-- a header without a fault passes each test
 pub fault_of-good : (h : BoxHeader) (before : ℕ) (has_moof : Bool) → fault_of h before has_moof ≡ None → Good h before has_moof
 fault_of-good h before has_moof is =
     let a = if-none _ OpenEnded _ is in
@@ -60,13 +64,14 @@ fault_of-good h before has_moof is =
     let e = if-none _ TooLarge _ d.1 in
     record { fits = ltb-le h.size h.head b.0; mdat = c.0; moof = d.0; limit = ltb-le (limit_of h.kind) (before + h.size) e.0 }
 
+-- a header that passes each test, and is at least 8 bytes long, has no fault
 pub good-fault_of : (h : BoxHeader) (before : ℕ) (has_moof : Bool) → 8 ≤ h.head → Good h before has_moof → fault_of h before has_moof ≡ None
 good-fault_of h before has_moof wide good =
     let fits = good.fits in
     let some : (h.size == 0) ≡ false = ne_eqb h.size 0 (λ e. omega arith) in
     rw (some, le-ltb h.size h.head good.fits, good.mdat, good.moof, le-ltb (limit_of h.kind) (before + h.size) good.limit) refl
 
--- after a box that ends no part, the rest of the part follows
+-- boxes with one in front that ends no part complete a part exactly if they do so after that one
 pub walks-joins : (p : Part) (has_moof : Bool) (k : ℕ) (kinds : List ℕ) → is_end k ≡ false → ((k == moof_type || k == moov_type) && has_moof) ≡ false
     → walks p has_moof (k ∷ kinds) ≡ walks p (has_moof || k == moof_type) kinds
 walks-joins (parts.Init bytes) false k kinds = by_kind k (λ k. is_end k ≡ false → ((k == moof_type || k == moov_type) && false) ≡ false → walks (parts.Init bytes) false (k ∷ kinds) ≡ walks (parts.Init bytes) (false || k == moof_type) kinds)
@@ -77,7 +82,7 @@ walks-joins (parts.Unit bytes) false k kinds = by_kind k (λ k. is_end k ≡ fal
 walks-joins (parts.Unit bytes) true k kinds = by_kind k (λ k. is_end k ≡ false → ((k == moof_type || k == moov_type) && true) ≡ false → walks (parts.Unit bytes) true (k ∷ kinds) ≡ walks (parts.Unit bytes) (true || k == moof_type) kinds)
     (λ e g. absurd (cc)) (λ e g. absurd (cc)) (λ e g. absurd (cc)) (λ a b c e g. rw (a, b, c) refl)
 
--- a box that ends a part is the last of its boxes
+-- a box without a fault that ends a part completes it alone
 pub walks-ends : (bytes : List ℕ) (has_moof : Bool) (k : ℕ) → is_end k ≡ true → (k == mdat_type && not has_moof) ≡ false → ((k == moof_type || k == moov_type) && has_moof) ≡ false
     → walks (part_of k bytes) has_moof (k ∷ []) ≡ true
 walks-ends bytes false k = by_kind k (λ k. is_end k ≡ true → (k == mdat_type && true) ≡ false → ((k == moof_type || k == moov_type) && false) ≡ false → walks (part_of k bytes) false (k ∷ []) ≡ true)
@@ -90,17 +95,19 @@ abbrev pub part_like : Part → List ℕ → Part
 part_like (parts.Init old) bytes = parts.Init bytes
 part_like (parts.Unit old) bytes = parts.Unit bytes
 
--- what a walk implies for its first box
+-- what holds of the first of the boxes that complete a part
 pub record Allowed (p : Part) (has_moof : Bool) (k : ℕ) (kinds : List ℕ) : Type 0 where
   pub mdat : (k == mdat_type && not has_moof) ≡ false
   pub moof : ((k == moof_type || k == moov_type) && has_moof) ≡ false
   pub limit : limit_of_part p ≤ limit_of k
   pub last : is_end k ≡ true → (kinds ≡ []) × ((bytes : List ℕ) → part_of k bytes ≡ part_like p bytes)
 
+-- no type follows the last one
 pub only-last : (kinds : List ℕ) → is_last kinds ≡ true → kinds ≡ []
 only-last [] is = refl
 only-last (k ∷ kinds) is = absurd (cc)
 
+-- a loose box may come first in the rest of a part of each kind
 loose-allowed : (p : Part) (has_moof : Bool) (k : ℕ) (kinds : List ℕ) → (k == moov_type) ≡ false → (k == moof_type) ≡ false → (k == mdat_type) ≡ false → limit_of_part p ≤ unit_limit → Allowed p has_moof k kinds
 loose-allowed p has_moof k kinds a b c within = record {
   mdat = rw c refl;
@@ -109,6 +116,7 @@ loose-allowed p has_moof k kinds a b c within = record {
   last = λ e. let no : false ≡ true = rw (a, c) at e in absurd (cc);
 }
 
+-- if boxes complete a part, the first of them has no fault, and is the last one if it ends a part
 pub walks-allowed : (p : Part) (has_moof : Bool) (k : ℕ) (kinds : List ℕ) → walks p has_moof (k ∷ kinds) ≡ true → Allowed p has_moof k kinds
 walks-allowed (parts.Init bytes) false k kinds = by_kind k (λ k. walks (parts.Init bytes) false (k ∷ kinds) ≡ true → Allowed (parts.Init bytes) false k kinds)
     (λ w. record { mdat = refl; moof = refl; limit = omega arith; last = λ e. (only-last kinds w, λ bytes. refl) })

@@ -38,12 +38,14 @@ IsHeaderFault MoofWithoutMdat = Unit {0}
 IsHeaderFault Truncated = ⊥
 IsHeaderFault Memory = ⊥
 
+-- the fault, if there is one, is one that a header can have
 record Shows (o : Option BoxFault) : Type 0 where
   header : (fault : BoxFault) → o ≡ Some fault → IsHeaderFault fault
 
 shows-none : Shows None
 shows-none = record { header = λ fault is. absurd (cc) }
 
+-- a test for a header's fault, before tests that show only such faults, shows only such faults
 shows : (b : Bool) (fault : BoxFault) (o : Option BoxFault) → IsHeaderFault fault → Shows o → Shows (if b then Some fault else o)
 shows true fault o header s = record { header = λ f is. let same : fault ≡ f = cc in subst IsHeaderFault same header }
 shows false fault o header s = s
@@ -55,12 +57,13 @@ fault_of-header h before has_moof fault bad =
     shows _ OpenEnded _ tt (shows _ BadSize _ tt (shows _ MdatAlone _ tt (shows _ MoofWithoutMdat _ tt (shows _ TooLarge _ tt shows-none)))) in
     each.header fault bad
 
--- the cases of the next box
+-- the next box is incomplete, or its header is faulty, or it is complete and without a fault
 pub data Came (rest : List ℕ) (before : ℕ) (has_moof : Bool) (next : BoxEffect) : Type 0 where
   Waits : Incomplete ≡ next → Came rest before has_moof next
   Fails : (h : BoxHeader) (fault : BoxFault) → header_at rest ≡ Some h → fault_of h before has_moof ≡ Some fault → Fault fault ≡ next → Came rest before has_moof next
   Passes : (h : BoxHeader) (box behind : List ℕ) → rest ≡ box ++ behind → IsBox h box → fault_of h before has_moof ≡ None → effect_of_box h has_moof ≡ next → Came rest before has_moof next
 
+-- each box with this header is one of these cases
 came_if : (rest : List ℕ) (before : ℕ) (has_moof : Bool) (h : BoxHeader) (o : Option BoxFault) → header_at rest ≡ Some h → fault_of h before has_moof ≡ o → Came rest before has_moof (effect_of_checked_box h (length rest) has_moof o)
 came_if rest before has_moof h (Some fault) header bad = Fails h fault header bad refl
 came_if rest before has_moof h None header good =
@@ -76,10 +79,12 @@ came_if rest before has_moof h None header good =
           good (rw (le-ltb (length rest) h.size long) refl)
     ]
 
+-- each box with this header, or with an incomplete one, is one of these cases
 came_by : (rest : List ℕ) (before : ℕ) (has_moof : Bool) (o : Option BoxHeader) → header_at rest ≡ o → Came rest before has_moof (effect_of_header o (length rest) before has_moof)
 came_by rest before has_moof None header = Waits refl
 came_by rest before has_moof (Some h) header = came_if rest before has_moof h (fault_of h before has_moof) header refl
 
+-- the next box is one of these cases
 pub came : (rest : List ℕ) (before : ℕ) (has_moof : Bool) → Came rest before has_moof (effect_at rest before has_moof)
 unfolding effect_at
 came rest before has_moof = came_by rest before has_moof (header_at rest) refl
@@ -92,13 +97,13 @@ next_of-passed h box more before has_moof is good =
     let long : h.size ≤ length (box ++ more) = omega (arith, length-append box more, is.whole) in
     rw (header, good, le-ltb (length (box ++ more)) h.size long) refl
 
--- so does a faulty header
+-- a faulty header has the same effect, whatever follows it
 pub next_of-fault : (h : BoxHeader) (rest more : List ℕ) (before : ℕ) (has_moof : Bool) (fault : BoxFault) → header_at rest ≡ Some h → fault_of h before has_moof ≡ Some fault → effect_at (rest ++ more) before has_moof ≡ Fault fault
 unfolding effect_at
 next_of-fault h rest more before has_moof fault header bad =
     rw (header_at-append rest more h header, bad) refl
 
--- the cut at one box, given that the two cuts agree on what follows
+-- two cuts that agree on what follows the next box agree at that box
 cut_by-same : (f g : List ℕ → List ℕ → Bool → StreamCut) (before rest : List ℕ) (has_moof : Bool) (next : BoxEffect)
     → ((h : BoxHeader) (box behind front : List ℕ) (moof : Bool) → rest ≡ box ++ behind → IsBox h box → h.head ≤ h.size → f front behind moof ≡ g front behind moof)
     → Came rest (length before) has_moof next → cut_by_effect f before rest has_moof next ≡ cut_by_effect g before rest has_moof next
@@ -118,6 +123,7 @@ shorter h rest box behind split one fits =
     let wide = header_at-within box h one.header in
     omega (arith, ap length split, length-append box behind, one.whole, wide.0)
 
+-- more steps than bytes are enough for a cut
 cut_within_enough : (most bound : ℕ) (before rest : List ℕ) (has_moof : Bool) → length rest < most → length rest < bound → cut_within most before rest has_moof ≡ cut_within bound before rest has_moof
 unfolding cut_within
 cut_within_enough zero bound before rest has_moof less more = absurd (omega arith)
@@ -138,7 +144,7 @@ cut_at-step before rest has_moof =
     cut_within_enough (length rest) (suc (length behind)) front behind moof (shorter h rest box behind split one fits) (omega arith))
     (came rest (length before) has_moof)
 
--- the three rules by which a cut continues, whatever follows
+-- a complete box without a fault that ends no part joins the part in progress, whatever follows
 pub cut_at-joins : (h : BoxHeader) (before box more : List ℕ) (has_moof : Bool) → IsBox h box → fault_of h (length before) has_moof ≡ None → is_end h.kind ≡ false
     → cut_at before (box ++ more) has_moof ≡ cut_at (before ++ box) more (has_moof || h.kind == moof_type)
 cut_at-joins h before box more has_moof one good joins =
@@ -148,6 +154,7 @@ cut_at-joins h before box more has_moof one good joins =
     let behind : drop h.size (box ++ more) ≡ more = drop_at box more h.size size in
     cut_at-step before (box ++ more) has_moof ∙ rw next (rw (front, behind) refl)
 
+-- a complete box without a fault that ends a part ends the part in progress, whatever follows
 pub cut_at-ends : (h : BoxHeader) (before box more : List ℕ) (has_moof : Bool) → IsBox h box → fault_of h (length before) has_moof ≡ None → is_end h.kind ≡ true
     → cut_at before (box ++ more) has_moof ≡ after_parts (part_of h.kind (before ++ box) ∷ []) (stream_cut more)
 cut_at-ends h before box more has_moof one good ends =
@@ -157,23 +164,26 @@ cut_at-ends h before box more has_moof one good ends =
     let behind : drop h.size (box ++ more) ≡ more = drop_at box more h.size size in
     cut_at-step before (box ++ more) has_moof ∙ rw next (rw (front, behind) refl)
 
+-- a faulty header stops the cut, whatever follows
 pub cut_at-fault : (h : BoxHeader) (before rest more : List ℕ) (has_moof : Bool) (fault : BoxFault) → header_at rest ≡ Some h → fault_of h (length before) has_moof ≡ Some fault
     → cut_at before (rest ++ more) has_moof ≡ record { parts = []; left = Refused fault }
 cut_at-fault h before rest more has_moof fault header bad =
     cut_at-step before (rest ++ more) has_moof ∙ rw (next_of-fault h rest more (length before) has_moof fault header bad) refl
 
--- the cases of a cut
+-- the next step of a cut: it stops at an incomplete box or a faulty header, or a box joins or ends the part in progress
 pub data Turn (before rest : List ℕ) (has_moof : Bool) : Type 0 where
   Stops : effect_at rest (length before) has_moof ≡ Incomplete → cut_at before rest has_moof ≡ record { parts = []; left = rest_of_part (length before) (length rest) has_moof } → Turn before rest has_moof
   Refuses : (h : BoxHeader) (fault : BoxFault) → header_at rest ≡ Some h → fault_of h (length before) has_moof ≡ Some fault → ((more : List ℕ) → cut_at before (rest ++ more) has_moof ≡ record { parts = []; left = Refused fault }) → Turn before rest has_moof
   Joining : (h : BoxHeader) (box behind : List ℕ) → rest ≡ box ++ behind → IsBox h box → fault_of h (length before) has_moof ≡ None → is_end h.kind ≡ false → Turn before rest has_moof
   Ending : (h : BoxHeader) (box behind : List ℕ) → rest ≡ box ++ behind → IsBox h box → fault_of h (length before) has_moof ≡ None → is_end h.kind ≡ true → Turn before rest has_moof
 
+-- by the cases of the next box, each cut has one of these steps
 turn_by : (before rest : List ℕ) (has_moof : Bool) (next : BoxEffect) → effect_at rest (length before) has_moof ≡ next → Came rest (length before) has_moof next → Turn before rest has_moof
 turn_by before rest has_moof next now (Waits is) = Stops (now ∙ sym is) (cut_at-step before rest has_moof ∙ rw (now, ← is) refl)
 turn_by before rest has_moof next now (Fails h fault header bad is) = Refuses h fault header bad (λ more. cut_at-fault h before rest more has_moof fault header bad)
 turn_by before rest has_moof next now (Passes h box behind split one good is) =
     elim (cases_Bool (is_end h.kind)) [ inl ends ↦ Ending h box behind split one good ends | inr joins ↦ Joining h box behind split one good joins ]
 
+-- each cut has one of these steps
 pub turn : (before rest : List ℕ) (has_moof : Bool) → Turn before rest has_moof
 turn before rest has_moof = turn_by before rest has_moof (effect_at rest (length before) has_moof) refl (came rest (length before) has_moof)

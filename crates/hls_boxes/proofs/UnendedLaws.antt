@@ -27,12 +27,14 @@ loose-opens true (k ∷ kinds) = by_kind k (λ k. AreLoose (k ∷ kinds) → ope
     (λ are. absurd (cc)) (λ are. absurd (cc)) (λ are. absurd (cc))
     (λ a b c are. rw (a, b, c) (refl, refl, loose-opens true kinds (loose-rest k kinds are)))
 
+-- loose types, a `moof` and loose types are those of boxes that end no part, with a `moof`
 moof-opens : (front between : List ℕ) → AreLoose front → AreLoose between → opens false (front ++ moof_type ∷ between) true
 moof-opens [] between = λ are loose. (refl, refl, loose-opens true between loose)
 moof-opens (k ∷ front) between = by_kind k (λ k. AreLoose (k ∷ front) → AreLoose between → opens false (k ∷ (front ++ moof_type ∷ between)) true)
     (λ are loose. absurd (cc)) (λ are loose. absurd (cc)) (λ are loose. absurd (cc))
     (λ a b c are loose. rw (a, b, c) (refl, refl, moof-opens front between (loose-rest k front are) loose))
 
+-- the grammar's types of boxes that end no part are those of the cut
 kinds-opens : (kinds : List ℕ) (after : Bool) → OpenKinds after kinds → opens false kinds after
 kinds-opens kinds false are = loose-opens false kinds are
 kinds-opens kinds true are =
@@ -43,6 +45,7 @@ abbrev Passed : List ℕ → List ℕ → Bool → Bool → Type 0
 Passed before front has_moof after =
     (more : List ℕ) → cut_at before (front ++ more) has_moof ≡ cut_at (before ++ front) more after
 
+-- boxes that end no part are consumed, if those after the first one are consumed after it
 passed_box : (before front : List ℕ) (has_moof after : Bool) (b : Child) (boxes : List Child) → opens has_moof (kinds_of (b ∷ boxes)) after
     → length before + length front ≤ unit_limit → FirstBox front b boxes
     → ((h : BoxHeader) (box behind : List ℕ) → length behind < length front → children behind ≡ Some boxes → opens (has_moof || h.kind == moof_type) (kinds_of boxes) after
@@ -64,6 +67,7 @@ passed_box before front has_moof after b boxes are within f ih more =
     ∙ ih h box behind (shorter h front box behind f.split f.one f.fits) f.filled are'.2 (omega (arith, long, length-append before box)) more
     ∙ ap (λ (xs : List ℕ). cut_at xs more after) whole
 
+-- boxes that fill a text within the limit and end no part are consumed, given a bound on the number of bytes
 passed : (bound : ℕ) (before front : List ℕ) (has_moof after : Bool) (boxes : List Child) → length front < bound → children front ≡ Some boxes
     → opens has_moof (kinds_of boxes) after → length before + length front ≤ unit_limit → Passed before front has_moof after
 passed zero before front has_moof after boxes less filled are within more = absurd (omega arith)
@@ -75,31 +79,36 @@ passed (suc bound) before front has_moof after (b ∷ boxes) less filled are wit
     passed_box before front has_moof after b boxes are within (first_box front b boxes filled)
     (λ h box behind less' filled' are' within'. passed bound (before ++ box) behind (has_moof || h.kind == moof_type) after boxes (omega arith) filled' are' within') more
 
--- what stops the cut
+-- a box whose header is incomplete, or that has no fault and lacks bytes, is incomplete
 waits : (tail : List ℕ) (before : ℕ) (has_moof : Bool) → IsIncompleteBox tail before has_moof → effect_at tail before has_moof ≡ Incomplete
 unfolding effect_at
 waits tail before has_moof (inl none) = rw none refl
 waits tail before has_moof (inr s) = let header = s.1 in let good = s.2 in rw (header, good, lt-ltb (length tail) s.0.size s.3) refl
 
+-- the cut stops at an incomplete box
 stops : (before tail : List ℕ) (has_moof : Bool) → effect_at tail (length before) has_moof ≡ Incomplete → cut_at before tail has_moof ≡ record { parts = []; left = rest_of_part (length before) (length tail) has_moof }
 stops before tail has_moof now = cut_at-step before tail has_moof ∙ rw now refl
 
--- the cut stops after those boxes
+-- a list of length 0 is empty
 no_bytes : (xs : List ℕ) → length xs ≡ 0 → xs ≡ []
 no_bytes [] is = refl
 no_bytes (x ∷ xs) is = absurd (omega arith)
 
+-- without boxes there is no `moof`
 no_moof : (has_moof : Bool) → OpenKinds has_moof [] → has_moof ≡ false
 no_moof has_moof are = sym (kinds-opens [] has_moof are)
 
+-- after the last byte the next box is incomplete
 waits-none : (before : ℕ) (has_moof : Bool) → effect_at [] before has_moof ≡ Incomplete
 unfolding effect_at header_at
 waits-none before has_moof = refl
 
+-- boxes that end no part, with no bytes after them, are the remainder
 left_of-boxes : (before : ℕ) (held : Bool) → 0 < before → rest_of_part before 0 held ≡ Boxes held
 left_of-boxes before true some = refl
 left_of-boxes before false some = rw (lt-ltb 0 before some) refl
 
+-- after boxes that end no part, the remainder by the cut is that of the grammar
 stopped : (before tail : List ℕ) (has_moof : Bool) (left : Remainder) → (length before ≡ 0 → has_moof ≡ false) → IsTail (length before) has_moof tail left → cut_at before tail has_moof ≡ record { parts = []; left = left }
 stopped before tail has_moof Nothing free b =
     let front : before ≡ [] = no_bytes before b.0 in
@@ -115,6 +124,7 @@ stopped before tail has_moof CutShort free b =
 stopped before tail has_moof (Refused fault) free b =
     rw append-nil at (cut_at-fault b.0 before tail [] has_moof fault b.1 b.2)
 
+-- a text that has no part by the grammar has none by the cut, and the same remainder
 unended_left : (bytes : List ℕ) (left : Remainder) → HasNoPart bytes left → stream_cut bytes ≡ record { parts = []; left = left }
 unended_left bytes left u =
     let alone : length u.front ≡ 0 → u.has_moof ≡ false = λ z.
@@ -124,5 +134,6 @@ unended_left bytes left u =
     ap stream_cut u.split ∙ passed (suc (length u.front)) [] u.front false u.has_moof u.boxes (omega arith) u.filled (kinds-opens (kinds_of u.boxes) u.has_moof u.kinds) (omega (arith, u.limit)) u.tail
     ∙ stopped u.front u.tail u.has_moof left alone u.behind
 
+-- a text has no part and this remainder by the cut if and only if it has them by the grammar
 pub lefts : RestMatchesGrammar
 lefts bytes left = (left_unended bytes left, unended_left bytes left)

@@ -6,6 +6,7 @@ use Rattle.hls_boxes.specs.declared.box_header.BoxHeader.{BoxHeader}
 use Rattle.hls_boxes.specs.Boxes.{header_at, box_at, whole_box_header, Child, child_of, children, children_after_header, children_within, IsWithin}
 use Rattle.hls_boxes.proofs.Headers.{IsBox, header_at-append, header_at-front, header_at-within}
 
+-- the header of a complete box is the one that was read, and the box has at least the header's and at most `len` bytes
 if_whole-some : (len : ℕ) (o : Option BoxHeader) (h : BoxHeader) → whole_box_header len o ≡ Some h → (o ≡ Some h) × (h.head ≤ h.size) × (h.size ≤ len)
 if_whole-some len None h is = absurd (cc)
 if_whole-some len (Some k) h is =
@@ -43,6 +44,7 @@ pub header-box_at : (bytes : List ℕ) (h : BoxHeader) → header_at bytes ≡ S
 unfolding box_at
 header-box_at bytes h is fits within = rw (is, le-ltb h.size h.head fits, le-ltb (length bytes) h.size within) refl
 
+-- two ways to find boxes give the same boxes after a header, if they agree on the rest
 children_by-same : (f g : List ℕ → Option (List Child)) (bytes : List ℕ) (o : Option BoxHeader) → ((h : BoxHeader) → o ≡ Some h → f (drop h.size bytes) ≡ g (drop h.size bytes)) → children_after_header f bytes o ≡ children_after_header g bytes o
 children_by-same f g bytes None same = refl
 children_by-same f g bytes (Some h) same = rw (same h refl) refl
@@ -59,6 +61,7 @@ children_within_enough (suc most) (suc bound) (b ∷ bytes) less more =
     let shorter : length (drop h.size (b ∷ bytes)) < length (b ∷ bytes) = omega (arith, length-drop h.size (b ∷ bytes)) in
     children_within_enough most bound (drop h.size (b ∷ bytes)) (omega arith) (omega arith))
 
+-- the empty text is filled by no boxes
 pub children-empty : children [] ≡ Some []
 unfolding children children_within
 children-empty = refl
@@ -73,7 +76,7 @@ children-step (b ∷ bytes) some =
     let shorter : length (drop h.size (b ∷ bytes)) < length (b ∷ bytes) = omega (arith, length-drop h.size (b ∷ bytes)) in
     children_within_enough (length (b ∷ bytes)) (suc (length (drop h.size (b ∷ bytes)))) (drop h.size (b ∷ bytes)) shorter (omega arith))
 
--- a box, and the boxes that fill the rest
+-- a complete box before bytes that boxes fill is the first of the boxes that fill both
 pub children-box : (h : BoxHeader) (box behind : List ℕ) (boxes : List Child) → IsBox h box → h.head ≤ h.size → children behind ≡ Some boxes
     → children (box ++ behind) ≡ Some (child_of h (box ++ behind) ∷ boxes)
 children-box h box behind boxes one fits filled =
@@ -95,6 +98,7 @@ pub record FirstBox (text : List ℕ) (b : Child) (boxes : List Child) : Type 0 
   pub kind : b.kind ≡ header.kind
   pub filled : children behind ≡ Some boxes
 
+-- a box in front of other boxes is the first of the result, and they are the rest
 some_of : (c : Child) (o : Option (List Child)) (b : Child) (boxes : List Child) → option_map (λ (more : List Child). c ∷ more) o ≡ Some (b ∷ boxes) → (c ≡ b) × (o ≡ Some boxes)
 some_of c None b boxes is = absurd (cc)
 some_of c (Some cs) b boxes is =
@@ -102,6 +106,7 @@ some_of c (Some cs) b boxes is =
     let tail : cs ≡ boxes = cc in
     (head, ap Some tail)
 
+-- boxes that fill a text are a first box and those that fill what follows it, given the header of a complete box
 first_box_by : (text : List ℕ) (b : Child) (boxes : List Child) (o : Option BoxHeader) → box_at text ≡ o → children_after_header children text o ≡ Some (b ∷ boxes) → FirstBox text b boxes
 first_box_by text b boxes None found is = absurd (cc)
 first_box_by text b boxes (Some h) found is =
@@ -121,15 +126,18 @@ first_box_by text b boxes (Some h) found is =
       filled = more.1;
     }
 
+-- boxes that fill a text are a first box and those that fill what follows it
 pub first_box : (text : List ℕ) (b : Child) (boxes : List Child) → children text ≡ Some (b ∷ boxes) → FirstBox text b boxes
 first_box [] b boxes is = let none : Some [] ≡ Some (b ∷ boxes) = sym children-empty ∙ is in absurd (cc)
 first_box (x ∷ text) b boxes is =
     first_box_by (x ∷ text) b boxes (box_at (x ∷ text)) refl (sym (children-step (x ∷ text) (omega arith)) ∙ is)
 
+-- a box in front of other boxes doesn't give an empty list
 some-box : (c : Child) (o : Option (List Child)) → option_map (λ (more : List Child). c ∷ more) o ≡ Some [] → ⊥
 some-box c None is = absurd (cc)
 some-box c (Some cs) is = absurd (cc)
 
+-- if a text is filled by no boxes, it is empty, given the header of a complete box, if there is one
 no_box : (text : List ℕ) (o : Option BoxHeader) → children_after_header children text o ≡ Some [] → text ≡ []
 no_box text None is = absurd (cc)
 no_box text (Some h) is = absurd (some-box (child_of h text) (children (drop h.size text)) is)

@@ -20,10 +20,12 @@ pub cut-empty : stream_cut [] ≡ record { parts = []; left = Nothing }
 unfolding cut_at cut_within effect_at header_at
 cut-empty = refl
 
+-- if the list of the types of boxes is empty, so is the list of the boxes
 no_kinds : (boxes : List Child) → kinds_of boxes ≡ [] → boxes ≡ []
 no_kinds [] is = refl
 no_kinds (b ∷ boxes) is = absurd (cc)
 
+-- boxes that complete a part are cut as that part, if those after the first one are cut so after it
 walked_box : (bound : ℕ) (before front : List ℕ) (has_moof : Bool) (p : Part) (b : Child) (boxes : List Child) → length front < suc bound
     → walks p has_moof (kinds_of (b ∷ boxes)) ≡ true → length before + length front ≤ limit_of_part p → FirstBox front b boxes
     → ((h : BoxHeader) (box behind : List ℕ) → front ≡ box ++ behind → length behind < length front → children behind ≡ Some boxes → walks p (has_moof || h.kind == moof_type) (kinds_of boxes) ≡ true → length (before ++ box) + length behind ≤ limit_of_part p
@@ -59,6 +61,7 @@ walked_box bound before front has_moof p b boxes less walk within f ih more =
           ∙ ap (λ (xs : List ℕ). after_parts (part_like p xs ∷ []) (stream_cut more)) whole
     ]
 
+-- without boxes no part is complete
 walks-none : (p : Part) (has_moof : Bool) → walks p has_moof [] ≡ true → ⊥
 walks-none (parts.Init bytes) false is = absurd (cc)
 walks-none (parts.Init bytes) true is = absurd (cc)
@@ -75,10 +78,12 @@ walked (suc bound) before front has_moof p (b ∷ boxes) less filled walk within
     walked_box bound before front has_moof p b boxes less walk within (first_box front b boxes filled)
     (λ h box behind split less' filled' walk' within' more'. walked bound (before ++ box) behind (has_moof || h.kind == moof_type) p boxes (omega arith) filled' walk' within' more') more
 
+-- if bytes are filled by boxes whose types pass a test, there are such boxes
 pub fills-boxes : (kinds_hold : List ℕ → Bool) (o : Option (List Child)) → fills kinds_hold o ≡ true → (boxes : List Child) × (o ≡ Some boxes) × (kinds_hold (kinds_of boxes) ≡ true)
 fills-boxes kinds_hold None is = absurd (cc)
 fills-boxes kinds_hold (Some boxes) is = (boxes, refl, is)
 
+-- a text that is exactly one part is filled, within the limit, by boxes that complete a part of its kind
 pub one_part : (p : Part) (bytes : List ℕ) → stream_cut bytes ≡ record { parts = p ∷ []; left = Nothing } → bytes_of p ≡ bytes
     → (boxes : List Child) × (children bytes ≡ Some boxes) × (walks p false (kinds_of boxes) ≡ true) × (length bytes ≤ limit_of_part p)
 one_part p bytes is whole =
@@ -86,33 +91,39 @@ one_part p bytes is whole =
     let same : f.front ≡ bytes = sym f.bytes ∙ whole in
     (f.boxes, ap children (sym same) ∙ f.filled, f.kinds, omega (arith, f.limit, ap length same))
 
+-- a text that is filled, within the limit, by boxes that complete a part of a kind is exactly one part of this kind
 pub whole_part : (p : Part) (bytes : List ℕ) (boxes : List Child) → children bytes ≡ Some boxes → walks p false (kinds_of boxes) ≡ true → length bytes ≤ limit_of_part p
     → stream_cut bytes ≡ record { parts = part_like p bytes ∷ []; left = Nothing }
 whole_part p bytes boxes filled walk within =
     sym (ap stream_cut (append-nil bytes)) ∙ walked (suc (length bytes)) [] bytes false p boxes (omega arith) filled walk (omega arith) []
     ∙ ap (λ (c : StreamCut). after_parts (part_like p bytes ∷ []) c) cut-empty
 
--- exactly one part: boxes that fill the text within the limit; only the last one ends a part
+-- a text that is exactly one part is within the limit, and the types of its boxes pass the test of a part of its kind
 part_fills : (p : Part) (bytes : List ℕ) → stream_cut bytes ≡ record { parts = p ∷ []; left = Nothing } → bytes_of p ≡ bytes
     → (length bytes ≤ limit_of_part p) × (fills (walks p false) (children bytes) ≡ true)
 part_fills p bytes is whole =
     let one = one_part p bytes is whole in
     (one.3, ap (fills (walks p false)) one.1 ∙ one.2)
 
+-- a text within the limit, the types of whose boxes pass the test of a part of a kind, is exactly one part of this kind
 fills_part : (p : Part) (bytes : List ℕ) → length bytes ≤ limit_of_part p → fills (walks p false) (children bytes) ≡ true
     → stream_cut bytes ≡ record { parts = part_like p bytes ∷ []; left = Nothing }
 fills_part p bytes within is =
     let one = fills-boxes (walks p false) (children bytes) is in
     whole_part p bytes one.0 one.1 one.2 within
 
+-- a text that is exactly one unit is within the limit, and the types of its boxes pass the test of a unit
 pub unit_part : (bytes : List ℕ) → IsUnitPart bytes → (length bytes ≤ unit_limit) × (fills has_unit (children bytes) ≡ true)
 unit_part bytes is = part_fills (parts.Unit bytes) bytes is refl
 
+-- a text within the limit, the types of whose boxes pass the test of a unit, is exactly one unit
 pub unit_whole : (bytes : List ℕ) → length bytes ≤ unit_limit → fills has_unit (children bytes) ≡ true → IsUnitPart bytes
 unit_whole bytes within is = fills_part (parts.Unit bytes) bytes within is
 
+-- a text that is exactly one init section is within the limit, and the types of its boxes pass the test of an init section
 pub init_part : (bytes : List ℕ) → IsInitPart bytes → (length bytes ≤ init_limit) × (fills ends_init (children bytes) ≡ true)
 init_part bytes is = part_fills (parts.Init bytes) bytes is refl
 
+-- a text within the limit, the types of whose boxes pass the test of an init section, is exactly one init section
 pub init_whole : (bytes : List ℕ) → length bytes ≤ init_limit → fills ends_init (children bytes) ≡ true → IsInitPart bytes
 init_whole bytes within is = fills_part (parts.Init bytes) bytes within is

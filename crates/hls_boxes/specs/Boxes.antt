@@ -42,11 +42,12 @@ pub record Child : Type 0 where
 abbrev pub child_of : BoxHeader → List ℕ → Child
 child_of h bytes = record { kind = h.kind; head = h.head; content = slice_range bytes h.head h.size }
 
+-- the box with this header and then the boxes that `others` finds in the rest, or None without a header
 abbrev pub children_after_header : (List ℕ → Option (List Child)) → List ℕ → Option BoxHeader → Option (List Child)
 children_after_header others bytes None = None
 children_after_header others bytes (Some h) = option_map (λ more. child_of h bytes ∷ more) (others (drop h.size bytes))
 
--- the same, for at most `most` boxes
+-- the boxes that fill the bytes, in order, if they are fewer than `most`, otherwise None
 unfoldable pub children_within : ℕ → List ℕ → Option (List Child)
 children_within zero bytes = None
 children_within (suc most) [] = Some []

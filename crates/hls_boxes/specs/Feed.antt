@@ -15,6 +15,7 @@ abbrev pub needed_len : Option BoxHeader → ℕ → ℕ
 needed_len (Some h) len = h.size
 needed_len None len = if nat_lt len 8 then 8 else 16
 
+-- the bytes of a complete part
 abbrev pub complete_part_bytes : CompletePart → List ℕ
 complete_part_bytes whole = whole.bytes.items
 
@@ -22,6 +23,7 @@ complete_part_bytes whole = whole.bytes.items
 pub record IsCompletePart (whole : CompletePart) : Type 0 where
   pub extends : (more : List ℕ) → stream_cut (complete_part_bytes whole ++ more) ≡ after_parts (part_of whole.kind (complete_part_bytes whole) ∷ []) (stream_cut more)
 
+-- each of them is a complete part, whatever follows it
 abbrev pub AreCompleteParts : List CompletePart → Type 0
 AreCompleteParts [] = Unit {0}
 AreCompleteParts (whole ∷ others) = IsCompletePart whole × AreCompleteParts others
@@ -30,6 +32,7 @@ AreCompleteParts (whole ∷ others) = IsCompletePart whole × AreCompleteParts o
 abbrev pub open_box : PendingPart → List ℕ
 open_box pending = drop pending.at pending.bytes.items
 
+-- the effect of the first box that isn't consumed yet
 abbrev pub next_effect : PendingPart → BoxEffect
 next_effect pending = effect_at (open_box pending) pending.at pending.has_moof
 
@@ -50,10 +53,11 @@ EndsAt len (Fault fault) = Unit {0}
 EndsAt len (Continues has_moof size) = size ≡ len
 EndsAt len (Ends kind size) = size ≡ len
 
+-- the bytes end where the first box that isn't consumed yet does, if it is complete
 abbrev pub EndsAtBox : PendingPart → Type 0
 EndsAtBox pending = EndsAt (length (open_box pending)) (next_effect pending)
 
--- the part in progress, given the fault that was found
+-- the part in progress needs more bytes, or has the fault that was found
 abbrev pub IsPendingWithFault : PendingPart → Option BoxFault → Type 0
 IsPendingWithFault pending None = NeedsMoreBytes pending
 IsPendingWithFault pending (Some fault) = stream_cut pending.bytes.items ≡ record { parts = []; left = Refused fault }
@@ -70,7 +74,7 @@ pub record AppendsParts (old : PendingPart) (before : List CompletePart) (pendin
   pub more : List ℕ
   pub first : first_bytes parts pending ≡ old.bytes.items ++ more
 
--- the same for a known piece
+-- the same for a known piece: the parts and the part in progress together have the old bytes and the piece, with this fault, if any
 pub record AppendsPiece (old : PendingPart) (before : List CompletePart) (piece : List ℕ) (fault : Option BoxFault) (pending : PendingPart) (whole : List CompletePart) : Type 0 where
   pub parts : List CompletePart
   pub queued : whole ≡ before ++ parts

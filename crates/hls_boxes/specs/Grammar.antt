@@ -8,10 +8,11 @@ use Rattle.hls_boxes.specs.declared.box_header.BoxHeader.{BoxHeader}
 use Rattle.hls_boxes.specs.Boxes.{header_at, Child, children, kinds_of}
 use Rattle.hls_boxes.specs.Parts.{fault_of, Remainder, Nothing, Boxes, CutShort, Refused}
 
--- a box of this type may come before or between
+-- a box of another type than `moov`, `moof` and `mdat` is loose: it may come before or between them
 abbrev pub is_loose : ℕ → Bool
 is_loose kind = not (kind == moov_type || kind == moof_type || kind == mdat_type)
 
+-- all of these types are loose
 abbrev pub AreLoose : List ℕ → Type 0
 AreLoose kinds = list_all is_loose kinds ≡ true
 
@@ -33,13 +34,15 @@ pub record UnitKinds (kinds : List ℕ) : Type 0 where
 abbrev pub FilledBy : (List ℕ → Type 0) → List ℕ → Type 0
 FilledBy Kinds bytes = (boxes : List Child) × (children bytes ≡ Some boxes) × Kinds (kinds_of boxes)
 
--- a text that is an init section, one that is a unit, and the text of a part
+-- a text that is an init section within its limit
 abbrev pub IsInitText : List ℕ → Type 0
 IsInitText bytes = FilledBy InitKinds bytes × (length bytes ≤ init_limit)
 
+-- a text that is a unit within its limit
 abbrev pub IsUnitText : List ℕ → Type 0
 IsUnitText bytes = FilledBy UnitKinds bytes × (length bytes ≤ unit_limit)
 
+-- the bytes of a part are an init section or a unit, by the part's kind
 abbrev pub IsPartText : Part → Type 0
 IsPartText (parts.Init bytes) = IsInitText bytes
 IsPartText (parts.Unit bytes) = IsUnitText bytes

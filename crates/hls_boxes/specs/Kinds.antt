@@ -14,9 +14,10 @@ moof_type = 0x6d6f6f66
 abbrev pub mdat_type : ℕ
 mdat_type = 0x6d646174
 
--- the limit of an init section with the loose boxes before its `moov`, and that of a unit or of a part's loose boxes
+-- the maximum length of an init section, with the loose boxes before its `moov`
 abbrev pub init_limit : ℕ
 init_limit = 1048576
 
+-- the maximum length of a unit, or of the loose boxes of a part
 abbrev pub unit_limit : ℕ
 unit_limit = 67108864

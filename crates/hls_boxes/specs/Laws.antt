@@ -23,6 +23,7 @@ pub record PartsAndRest (bytes : List ℕ) : Type 0 where
   pub joined : bytes ≡ flat_map bytes_of (stream_cut bytes).parts ++ rest
   pub left : stream_cut rest ≡ record { parts = []; left = (stream_cut bytes).left }
 
+-- every text is the concatenation of its parts and a rest
 abbrev pub PartsAndRestAreInput : Type 0
 PartsAndRestAreInput = (bytes : List ℕ) → PartsAndRest bytes
 
@@ -41,21 +42,22 @@ OnePartIsItsBytes =
 abbrev pub EmptyInputLeavesNothing : Type 0
 EmptyInputLeavesNothing = stream_cut [] ≡ record { parts = []; left = Nothing }
 
--- the cut and the grammar agree: on texts that are exactly one part, ..
+-- a text is exactly one init section by the cut if and only if it is one by the grammar
 abbrev pub InitsMatchGrammar : Type 0
 InitsMatchGrammar = (bytes : List ℕ) → IsInitPart bytes ↔ IsInitText bytes
 
+-- a text is exactly one unit by the cut if and only if it is one by the grammar
 abbrev pub UnitsMatchGrammar : Type 0
 UnitsMatchGrammar = (bytes : List ℕ) → IsUnitPart bytes ↔ IsUnitText bytes
 
--- .. and on the first part of any text: it is the prefix that the grammar accepts
+-- the first part of a text by the cut is its prefix that is a part by the grammar
 abbrev pub FirstPartMatchesGrammar : Type 0
 FirstPartMatchesGrammar =
     (bytes : List ℕ) (part : Part)
     → ((others : List Part) × ((stream_cut bytes).parts ≡ part ∷ others))
     ↔ ((rest : List ℕ) × (bytes ≡ bytes_of part ++ rest) × IsPartText part)
 
--- .. and on the remainder, if there is no part
+-- a text has no part and this remainder by the cut if and only if it has them by the grammar
 abbrev pub RestMatchesGrammar : Type 0
 RestMatchesGrammar =
     (bytes : List ℕ) (left : Remainder) → (stream_cut bytes ≡ record { parts = []; left = left }) ↔ HasNoPart bytes left

@@ -30,10 +30,12 @@ effect_of_box h has_moof =
     if h.kind == moov_type || h.kind == mdat_type then Ends h.kind h.size
     else Continues (has_moof || h.kind == moof_type) h.size
 
+-- the effect of a box, given its header, how many bytes are there from it on, and the header's first fault, if there is one
 abbrev pub effect_of_checked_box : BoxHeader → ℕ → Bool → Option BoxFault → BoxEffect
 effect_of_checked_box h len has_moof (Some fault) = Fault fault
 effect_of_checked_box h len has_moof None = if nat_lt len h.size then Incomplete else effect_of_box h has_moof
 
+-- the effect of a box, given its header, if that is complete, and how many bytes are there
 abbrev pub effect_of_header : Option BoxHeader → ℕ → ℕ → Bool → BoxEffect
 effect_of_header None len before has_moof = Incomplete
 effect_of_header (Some h) len before has_moof = effect_of_checked_box h len has_moof (fault_of h before has_moof)
@@ -46,6 +48,7 @@ effect_at bytes before has_moof = effect_of_header (header_at bytes) (length byt
 abbrev pub part_of : ℕ → List ℕ → Part
 part_of kind bytes = if kind == moov_type then parts.Init bytes else parts.Unit bytes
 
+-- the bytes of a part
 abbrev pub bytes_of : Part → List ℕ
 bytes_of (parts.Init bytes) = bytes
 bytes_of (parts.Unit bytes) = bytes
@@ -57,10 +60,12 @@ pub data Remainder : Type 0 where
   CutShort : Remainder
   Refused : (fault : BoxFault) → Remainder
 
+-- the parts of a text, in order, and its remainder
 pub record StreamCut : Type 0 where
   pub parts : List Part
   pub left : Remainder
 
+-- the cut of a text that begins with these parts, given the cut of what follows them
 abbrev pub after_parts : List Part → StreamCut → StreamCut
 after_parts ps c = record { parts = ps ++ c.parts; left = c.left }
 
@@ -79,7 +84,7 @@ cut_by_effect cut before rest has_moof (Continues moof size) = cut (before ++ ta
 cut_by_effect cut before rest has_moof (Ends kind size) =
     after_parts (part_of kind (before ++ take size rest) ∷ []) (cut [] (drop size rest) false)
 
--- the cut of the rest into at most `most` boxes
+-- the cut of the rest in at most `most` steps: each consumes a box or stops
 unfoldable pub cut_within : ℕ → List ℕ → List ℕ → Bool → StreamCut
 cut_within zero before rest has_moof = record { parts = []; left = CutShort }
 cut_within (suc most) before rest has_moof =
@@ -93,26 +98,28 @@ cut_at before rest has_moof = cut_within (suc (length rest)) before rest has_moo
 abbrev pub stream_cut : List ℕ → StreamCut
 stream_cut bytes = cut_at [] bytes false
 
--- the fault of a text, whatever follows it
+-- the fault that a remainder shows, whatever follows it
 abbrev pub fault_of_rest : Remainder → Option BoxFault
 fault_of_rest Nothing = None
 fault_of_rest (Boxes has_moof) = None
 fault_of_rest CutShort = None
 fault_of_rest (Refused fault) = Some fault
 
+-- the fault that a text shows, whatever follows it
 abbrev pub text_fault : List ℕ → Option BoxFault
 text_fault bytes = fault_of_rest (stream_cut bytes).left
 
--- the fault of a text that ends here
+-- the fault of a remainder after which the text ends
 abbrev pub fault_at_end : Remainder → Option BoxFault
 fault_at_end Nothing = None
 fault_at_end (Boxes has_moof) = if has_moof then Some Truncated else None
 fault_at_end CutShort = Some Truncated
 fault_at_end (Refused fault) = Some fault
 
--- the text is exactly one init section, or exactly one unit
+-- the text is exactly one init section
 abbrev pub IsInitPart : List ℕ → Type 0
 IsInitPart bytes = stream_cut bytes ≡ record { parts = parts.Init bytes ∷ []; left = Nothing }
 
+-- the text is exactly one unit
 abbrev pub IsUnitPart : List ℕ → Type 0
 IsUnitPart bytes = stream_cut bytes ≡ record { parts = parts.Unit bytes ∷ []; left = Nothing }

@@ -22,6 +22,7 @@ pub record TakesFirstPart (part : Part) (old new : List ℕ) : Type 0 where
   pub now : stream_cut old ≡ after_parts (part ∷ []) (stream_cut new)
   pub follows : (more : List ℕ) → stream_cut (old ++ more) ≡ after_parts (part ∷ []) (stream_cut (new ++ more))
 
+-- the first part is taken; without one, there is no part and the bytes don't change
 abbrev pub TakesNextPart : Option Part → List ℕ → List ℕ → Type 0
 TakesNextPart None old new = (new ≡ old) × ((stream_cut old).parts ≡ [])
 TakesNextPart (Some part) old new = TakesFirstPart part old new

@@ -1,11 +1,11 @@
 -- The bytes in the slices of a resource from a position: the number of a slice, and the offset in it.
 use Rattle.std.specs.{Prelude.{◌≡◌, ℕ, ◌+◌, ◌<◌, ◌≤◌, ◌^◌, List, [], length, take, drop, get_or}, List.concat}
 
--- all bytes from there
+-- all bytes from a position: those of its slice from the offset on, and those of the slices after it
 abbrev pub rest_at : List (List ℕ) → ℕ → ℕ → List ℕ
 rest_at slices number within = drop within (concat (drop number slices))
 
--- the first n of them
+-- the first bytes from a position, up to a number of them
 abbrev pub part_at : List (List ℕ) → ℕ → ℕ → ℕ → List ℕ
 part_at slices number within len = take len (rest_at slices number within)
 

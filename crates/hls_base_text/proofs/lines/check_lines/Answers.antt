@@ -1,3 +1,4 @@
+-- A known line leaves the checks of the lines after it.
 use Rattle.std.proofs.Common.{◌≡◌, ◌∙◌, ℕ, suc, ◌+◌, true, rules, arith, sym, ap}
 use Rattle.hls_base_text.specs.BaseText.{is_known, names_of}
 use Rattle.hls_base_text.proofs.LineSteps.{checks_from, known_line}

@@ -1,3 +1,4 @@
+-- Before each round, all lines so far are known, so the check of the remaining ones is the check of all. The rest gets shorter.
 use Rattle.std.proofs.Common.{◌≡◌, ◌+◌, ◌≤◌, length}
 use Rattle.hls_base_text.specs.BaseText.{names_of}
 use Rattle.hls_base_text.proofs.LineSteps.{checks_from}

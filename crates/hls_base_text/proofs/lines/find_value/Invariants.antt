@@ -1,3 +1,4 @@
+-- Before each round, no line so far has the value, so the values in the remaining lines are those in all. The rest gets shorter.
 use Rattle.std.proofs.Common.{◌≡◌, length}
 use Rattle.hls_base_text.specs.BaseText.{names_of}
 use Rattle.hls_base_text.proofs.LineSteps.{values_from}

@@ -1,3 +1,4 @@
+-- Before each round, the line is of none of the renditions so far, so the remaining ones decide.
 use Rattle.std.proofs.Common.{◌≡◌, drop}
 use Rattle.std.specs.Prelude.{is_some}
 use Rattle.std.specs.List.{list_any}

@@ -1,3 +1,4 @@
+-- Before each round, the bytes so far, with those to be read of the remaining renditions, make the result. Fewer renditions remain each time.
 use Rattle.std.proofs.Common.{◌≡◌, ◌-◌, ◌≤◌, drop, length}
 use Rattle.hls_text.specs.Lines.{cut_text}
 use Rattle.hls_base_text.specs.BaseText.{bytes_from, bytes_in, names_of}

@@ -1,3 +1,4 @@
+-- After the line of a rendition is written, those of the renditions after it remain to be written.
 use Rattle.std.proofs.Common.{◌≡◌, ◌∙◌, ℕ, ◌+◌, ◌<◌, ◌++◌, List, length, drop, get_or, rules, arith, sym, ap, append_assoc}
 use Rattle.hls_core_laws.specs.declared.rendition.Rendition.{Rendition}
 use Rattle.hls_core_laws.specs.Base.{bytes_before_base}

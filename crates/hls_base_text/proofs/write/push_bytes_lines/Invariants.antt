@@ -1,3 +1,4 @@
+-- Before each round, the lines so far and those of the remaining renditions are all lines. Fewer renditions remain each time.
 use Rattle.std.proofs.Common.{◌≡◌, ◌++◌, ◌-◌, ◌≤◌, drop, length}
 use Rattle.hls_base_text.specs.BaseText.{bytes_lines, names_of}
 use Rattle.hls_base_text.proofs.write.push_bytes_lines.Given as goal

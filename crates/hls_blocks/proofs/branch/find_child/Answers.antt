@@ -1,3 +1,4 @@
+-- The child of an item exists (`locate_child`); it is one of the others (`other_at`) or the last one (`last_at`).
 use Rattle.std.proofs.Common.{◌≡◌, ◌<◌, ◌≤◌, length, map, get_or, ◌∙◌, ap, arith}
 use Rattle.std.proofs.lemmas.List.{length-map}
 use Rattle.hls_blocks.specs.Tree.{children}

@@ -1,3 +1,4 @@
+-- Divided by the capacity of a child, n gives the child's slot and the number inside it, also if n is the number of the next item.
 use Rattle.hls_blocks.proofs.Held.{place}
 use Rattle.std.proofs.lemmas.List.{length-map}
 use Rattle.hls_blocks.proofs.branch.locate_child.Goals as goal

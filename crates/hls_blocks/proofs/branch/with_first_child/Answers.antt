@@ -1,3 +1,4 @@
+-- The new child precedes those of the others that are left, or it is the only one if the last child is replaced.
 use Rattle.std.proofs.Common.{◌≡◌, ◌+◌, ◌<◌, ◌≤◌, suc, [], ◌∷◌, ◌++◌, add-one, length, map, refl, ◌∙◌, sym, ap, arith}
 use Rattle.std.proofs.lemmas.List.{take_rest, drop_all, drop-map, length-map, length-drop}
 use Rattle.hls_blocks.proofs.Last.{others_from, count_of}

@@ -1,3 +1,4 @@
+-- Each step appends a copy of the next entry and counts one slot.
 use Rattle.std.proofs.Common.{length}
 use Rattle.hls_blocks.proofs.Copies.{one_copied, one_counted, room_to_count}
 use Rattle.hls_blocks.proofs.copy.append_copies.Goals as goal

@@ -1,3 +1,4 @@
+-- Before each round, the entries so far are appended, and each was counted.
 use Rattle.std.proofs.Common.{◌≡◌, ◌+◌, ◌++◌, map, take}
 use Rattle.hls_blocks.proofs.copy.append_copies.Given as goal
 

@@ -1,3 +1,4 @@
+-- A copy of an entry has the same value, so each round appends the value of one more entry.
 use Rattle.hls_blocks.proofs.Copies.{one_copied}
 use Rattle.hls_blocks.proofs.copy.append_uncounted_copies.Goals as goal
 

@@ -1,3 +1,4 @@
+-- Before each round, the values of the entries so far are appended.
 use Rattle.std.proofs.Common.{◌≡◌, ◌++◌, map, take}
 use Rattle.hls_blocks.proofs.copy.append_uncounted_copies.Given as goal
 

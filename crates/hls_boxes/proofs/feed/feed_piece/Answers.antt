@@ -1,3 +1,4 @@
+-- Each round appends bytes up to the end of the next box at most, and then examines that box; after a fault the rest is appended.
 use Rattle.std.proofs.Common.{ℕ, ◌<◌, Option, Some, None, List, [], ◌++◌, length, ◌∙◌, append-nil, arith, refl, subst, sym}
 use Rattle.std.proofs.lemmas.List.{take_rest}
 use Rattle.hls_boxes.specs.declared.fault.BoxFault.{BoxFault}

@@ -1,3 +1,5 @@
+-- Before each round, the piece is what was consumed and the rest, and the reader has appended the consumed bytes without a fault.
+-- The rest gets shorter.
 use Rattle.std.proofs.Common.{◌≡◌, ℕ, List, None, ◌++◌, length}
 use Rattle.hls_boxes.specs.Feed.{AppendsPiece}
 use Rattle.hls_boxes.proofs.feed.feed_piece.Given as goal

@@ -1,3 +1,5 @@
+-- A complete box without a fault joins the part in progress, or ends it, and then the part is complete. A fault is returned, and
+-- an incomplete box changes nothing.
 use Rattle.std.proofs.Common.{◌∙◌, [], ◌∷◌, ◌++◌, Some, None, refl, sym, ap}
 use Rattle.std.proofs.lemmas.List.{take_rest}
 use Rattle.hls_boxes.proofs.IntakeLaws.{ends, joins, passes-none, passes-one, refuses, waits-start}

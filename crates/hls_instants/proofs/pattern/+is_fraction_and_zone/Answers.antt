@@ -1,27 +1,33 @@
+-- By whether no more digits are allowed, the text is empty, it is a zone, or it begins with a digit.
 use Rattle.std.proofs.Common.{◌≡◌, ℕ, zero, suc, ◌+◌, ◌-◌, ◌≤◌, true, false, List, [], ◌∷◌, length, refl, sym, ap, ◌∙◌, arith}
 use Rattle.std.specs.Char.{is_ascii_digit}
 use Rattle.hls_instants.specs.Pattern.{matches_byte, is_zone, is_fraction_and_zone}
 use Rattle.hls_instants.proofs.pattern.+is_fraction_and_zone.Goals as goal
 
+-- if no more digits are allowed, the text must be a zone
 no_digits : (k : ℕ) (text : List ℕ) → k ≡ 0 → is_zone text ≡ is_fraction_and_zone k text
 unfolding is_fraction_and_zone
 no_digits zero text e = refl
 no_digits (suc k) text e = absurd (omega (arith, e))
 
+-- an empty text doesn't pass if a digit is allowed
 no_byte : (k : ℕ) (text : List ℕ) → 1 ≤ k → length text ≡ 0 → false ≡ is_fraction_and_zone k text
 unfolding is_fraction_and_zone
 no_byte zero text some e = absurd (omega (arith, some))
 no_byte (suc k) [] some e = refl
 no_byte (suc k) (b ∷ bs) some e = absurd (omega (arith, e))
 
+-- a text that is a zone passes, whatever number of digits is allowed
 zone : (k b : ℕ) (bs text : List ℕ) → 1 ≤ k → text ≡ b ∷ bs → is_zone text ≡ true → true ≡ is_fraction_and_zone k text
 unfolding is_fraction_and_zone
 zone zero b bs text some is e = absurd (omega (arith, some))
 zone (suc k) b bs text some is e = let here = rw is at e in rw (is, here) refl
 
+-- the pattern's 9 matches exactly the ASCII digits
 fits_digit : (b : ℕ) → matches_byte 57 b ≡ is_ascii_digit b
 fits_digit b = refl
 
+-- if the text is no zone and begins with a digit, the rest decides, with one digit fewer allowed
 digit : (j k b : ℕ) (bs text : List ℕ) → j + 1 ≡ k → text ≡ b ∷ bs → is_zone text ≡ false → is_ascii_digit b ≡ true
     → is_fraction_and_zone j bs ≡ is_fraction_and_zone k text
 unfolding is_fraction_and_zone
@@ -32,6 +38,7 @@ digit j (suc k) b bs text next is e d =
     let same : j ≡ k = omega (arith, next) in
     rw (is, here, fitting) (ap (λ n. is_fraction_and_zone n bs) same)
 
+-- a text that is no zone and begins with no digit doesn't pass
 no_digit : (k b : ℕ) (bs text : List ℕ) → 1 ≤ k → text ≡ b ∷ bs → is_zone text ≡ false → is_ascii_digit b ≡ false
     → false ≡ is_fraction_and_zone k text
 unfolding is_fraction_and_zone

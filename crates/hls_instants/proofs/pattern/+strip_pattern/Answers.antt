@@ -1,22 +1,27 @@
+-- By whether the pattern or the text is empty, and whether the first byte matches.
 use Rattle.std.proofs.Common.{◌≡◌, ℕ, true, false, List, [], ◌∷◌, length, Some, None, refl, sym, ◌∙◌, arith}
 use Rattle.hls_instants.specs.Pattern.{matches_byte, rest_after_pattern}
 use Rattle.hls_instants.proofs.pattern.+strip_pattern.Goals as goal
 
+-- an empty pattern leaves the whole text
 no_place : (pattern text : List ℕ) → length pattern ≡ 0 → Some text ≡ rest_after_pattern pattern text
 unfolding rest_after_pattern
 no_place [] text e = refl
 no_place (p ∷ ps) text e = absurd (omega (arith, e))
 
+-- an empty text doesn't begin with a pattern that isn't empty
 no_byte : (p : ℕ) (ps pattern text : List ℕ) → pattern ≡ p ∷ ps → length text ≡ 0 → None ≡ rest_after_pattern pattern text
 unfolding rest_after_pattern
 no_byte p ps pattern [] is e = rw is refl
 no_byte p ps pattern (b ∷ bs) is e = absurd (omega (arith, e))
 
+-- if the first byte matches, the rest of the text after the rest of the pattern is what is left
 fitting : (p b : ℕ) (ps bs pattern text : List ℕ) → pattern ≡ p ∷ ps → text ≡ b ∷ bs → matches_byte p b ≡ true
     → rest_after_pattern ps bs ≡ rest_after_pattern pattern text
 unfolding rest_after_pattern
 fitting p b ps bs pattern text place byte e = rw (place, byte, e) refl
 
+-- if the first byte doesn't match, the text doesn't begin with the pattern
 not_fitting : (p b : ℕ) (ps bs pattern text : List ℕ) → pattern ≡ p ∷ ps → text ≡ b ∷ bs → matches_byte p b ≡ false
     → None ≡ rest_after_pattern pattern text
 unfolding rest_after_pattern

@@ -1,3 +1,4 @@
+-- The recursion ends: each further call has a pattern that is shorter by one byte.
 use Rattle.std.proofs.Common.{length}
 use Rattle.hls_instants.proofs.pattern.+strip_pattern.Given as goal
 

@@ -1,11 +1,14 @@
+-- By whether the text after the seconds is a zone, or begins with a point and a digit.
 use Rattle.std.proofs.Common.{◌≡◌, true, false, ℕ, List, Option, Some, None, refl, sym, ◌∙◌}
 use Rattle.std.specs.Prelude.{codes}
 use Rattle.hls_instants.specs.Pattern.{rest_after_pattern, is_zone, is_after_point, is_after_seconds}
 use Rattle.hls_instants.proofs.pattern.has_shape.Goals as goal
 
+-- if the text after the seconds is a zone, the whole text has the shape
 zone : (o : Option (List ℕ)) (rest : List ℕ) → Some rest ≡ o → is_zone rest ≡ true → true ≡ is_after_seconds o
 zone o rest is e = rw (← is, e) refl
 
+-- if the text after the seconds is no zone, what follows a point and a digit decides
 fraction : (o more : Option (List ℕ)) (rest : List ℕ) → Some rest ≡ o → is_zone rest ≡ false → more ≡ rest_after_pattern (codes ".9") rest
     → is_after_point more ≡ is_after_seconds o
 fraction o more rest is e behind = rw (← is, e, behind) refl

@@ -1,3 +1,5 @@
+-- A text without the shape, or one that the library refuses, is the text of no instant. Any other is the text of the library's instant,
+-- rounded down to whole microseconds, which is within the bounds.
 use Rattle.std.proofs.Common.{◌≡◌, ℕ, ℤ, pos, List, Some, sym, ap, ◌∙◌, arith, FitsSigned, w64, to_z, of_z}
 use Rattle.std.proofs.lemmas.Int.{to_z-of_z}
 use Rattle.std.specs.Int.{int_div_euclid, w128}
@@ -7,7 +9,7 @@ use Rattle.hls_instants.specs.Instants.{instant_of}
 use Rattle.hls_instants.proofs.Moments.{unshaped, unread, well_read, none_named, some_named, in_bounds}
 use Rattle.hls_instants.proofs.read.parse_instant.Goals as goal
 
--- the casts lose nothing
+-- if an instant in whole microseconds is the text's, so it is after the casts from 128 to 64 bits
 as_read : (text : List ℕ) (n q : ℤ) → IsTimestampNanos n → q ≡ int_div_euclid (to_z w128 (of_z w128 n)) (pos 1000)
     → Some (int_div_euclid n (pos 1000)) ≡ instant_of text → Some (to_z w64 (of_z w64 (to_z w128 (of_z w128 q)))) ≡ instant_of text
 as_read text n q range is i =

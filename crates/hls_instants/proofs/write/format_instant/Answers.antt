@@ -1,3 +1,4 @@
+-- The library prints 24 bytes: the text of the instant, which is one of the grammar.
 use Rattle.std.proofs.Common.{◌≡◌, ℤ, pos, ◌*ℤ◌, ◌≤ℤ◌, sym, ap, ◌∙◌, subst, arith, rules, FitsSigned, w64, to_z, of_z, length}
 use Rattle.std.proofs.lemmas.Int.{to_z-of_z}
 use Rattle.std.specs.Int.{w128}
@@ -6,7 +7,7 @@ use Rattle.hls_instants.specs.Instants.{IsInstantText, last_written_us}
 use Rattle.hls_instants.proofs.Dates.{is_moment_text, moment_text_length, printed_text}
 use Rattle.hls_instants.proofs.write.format_instant.Goals as goal
 
--- the casts lose nothing
+-- an instant that can be written, cast to 128 bits, is multiplied by 1000 without overflow
 in_nanoseconds : (us : ℤ) → FitsSigned w64 us → pos 0 ≤ℤ us → us ≤ℤ last_written_us
     → to_z w128 (of_z w128 (to_z w128 (of_z w128 (to_z w64 (of_z w64 us))) *ℤ pos 1000)) ≡ us *ℤ pos 1000
 in_nanoseconds us f low high =

@@ -1,3 +1,4 @@
+-- A position past the end of a slice is one in the next slice, where the same bytes remain.
 use Rattle.std.proofs.Common.{◌∙◌, ◌+◌, ◌-◌, ◌≤◌, [], get_or, length, ap, arith}
 use Rattle.hls_io.{specs.Slices.rest_at, proofs.Places.{next_slice, next_there}}
 use Rattle.hls_io.proofs.resource_range.locate_byte.Goals as goal

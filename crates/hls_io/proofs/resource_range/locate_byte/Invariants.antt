@@ -1,3 +1,4 @@
+-- Before each round, the bytes from the position on are the same as at the start: a slice that is skipped is taken off the offset.
 use Rattle.std.{proofs.Common.{◌≡◌, ◌-◌, ◌<◌, ◌≤◌, ◌^◌, [], length, drop, get_or}, specs.List.concat}
 use Rattle.hls_io.specs.Slices.{rest_at}
 use Rattle.hls_io.proofs.resource_range.locate_byte.Given as goal

@@ -1,3 +1,4 @@
+-- Before each round, the text followed by the remaining media is the same as at the start. Each round copies a slice from the media to the text.
 use Rattle.std.proofs.Common.{◌≡◌, ◌++◌, length}
 use Rattle.hls_io.proofs.small_slices.gather_slices.Given as goal
 

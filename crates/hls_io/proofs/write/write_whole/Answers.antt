@@ -1,3 +1,4 @@
+-- After a failed write a beginning of the text is written, otherwise the whole text; a write that succeeds adds no failure to the count.
 use Rattle.std.proofs.{Common.{◌≡◌, ◌∙◌, length, arith, refl}, lemmas.List.nil_from_length}
 use Rattle.hls_io.proofs.WriteLaws.{writes_part, writes_whole, writing_more}
 use Rattle.hls_io.proofs.write.write_whole.Goals as goal

@@ -1,3 +1,4 @@
+-- Before each round, all of the text but the rest is written, and no failure was counted. Each round writes at least one byte.
 use Rattle.std.proofs.Common.{◌≡◌, ℕ, List, Some, length}
 use Rattle.hls_io.{specs.Counted.{failures_of, inner_of}, proofs.WriteLaws.Writing}
 use Rattle.hls_io.proofs.write.write_whole.Given as goal

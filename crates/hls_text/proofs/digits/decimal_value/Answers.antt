@@ -1,3 +1,5 @@
+-- No step overflows: at most 16 digits give a number that fits in 64 bits, and no digit's byte is below that of `0`.
+-- After one more digit the value is still that of the digits so far.
 use Rattle.std.proofs.Common.{arith}
 use Rattle.hls_text.proofs.Decimals.{value_small, digit_low, value_more}
 use Rattle.hls_text.proofs.digits.decimal_value.Goals as goal

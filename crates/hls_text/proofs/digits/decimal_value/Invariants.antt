@@ -1,3 +1,4 @@
+-- Before each round, the value is the number of the digits so far.
 use Rattle.std.proofs.Common.{◌≡◌, take}
 use Rattle.std.specs.Str.Parse.{digits_value}
 use Rattle.hls_text.proofs.digits.decimal_value.Given as goal

@@ -1,3 +1,4 @@
+-- A text that is empty, too long or not only digits has no number. Any other text has the value of its digits.
 use Rattle.std.proofs.Common.{◌∙◌, ap, arith, sym, Some}
 use Rattle.std.proofs.lemmas.Bool.Decides.{nat_tests}
 use Rattle.hls_text.proofs.Wholes.{bad_number, good_number, long_number, no_number, numerals}

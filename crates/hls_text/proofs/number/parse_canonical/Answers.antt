@@ -1,3 +1,5 @@
+-- The digits are the canonical spelling of a number below 2^53, unless there are none or more than 16, the first of several is a zero,
+-- or their value is too large.
 use Rattle.std.proofs.Common.{◌≡◌, ◌<◌, ◌≤◌, length, get_or, ◌∙◌, arith}
 use Rattle.std.proofs.lemmas.Bool.Decides.{nat_tests}
 use Rattle.hls_text.proofs.Decimals.{not_empty, not_long, no_zero_first, its_value, spelling}

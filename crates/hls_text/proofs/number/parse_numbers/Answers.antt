@@ -1,3 +1,5 @@
+-- The numbers that were read are those of the line once nothing follows the last one. If a number or a space is missing,
+-- the line isn't one of numbers.
 use Rattle.std.proofs.Common.{◌≡◌, ◌<◌, length, arith}
 use Rattle.std.proofs.lemmas.Bool.Decides.{nat_tests}
 use Rattle.hls_text.proofs.Words.{none_read, read_more, read_last, no_number_there, no_space_there}

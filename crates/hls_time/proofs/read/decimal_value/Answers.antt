@@ -1,3 +1,4 @@
+-- The number of at most 10 digits is below 10^10, by the bound on the number of a run of digits.
 use Rattle.std.proofs.Common.{arith, rules}
 use Rattle.hls_time.proofs.read.decimal_value.Goals as goal
 use Rattle.hls_time.proofs.DigitRuns.{number_bound, number_at_end}

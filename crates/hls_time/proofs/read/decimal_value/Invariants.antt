@@ -1,3 +1,4 @@
+-- Before each round, continuing the number so far with the remaining digits gives the number of the whole text.
 use Rattle.std.proofs.Common.{◌≡◌, drop}
 use Rattle.hls_time.specs.Digits.{number_after, decimal_number}
 use Rattle.hls_time.proofs.read.decimal_value.Given as goal

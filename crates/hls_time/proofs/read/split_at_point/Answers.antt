@@ -1,3 +1,5 @@
+-- The run of digits at the start is all of the whole part. So a text isn't decimal if that run is empty or has more than 10 digits,
+-- or if what follows it isn't a fraction.
 use Rattle.std.proofs.Common.{◌≡◌, sym, ◌∙◌, subst, arith, rules}
 use Rattle.std.proofs.lemmas.List.{take_rest}
 use Rattle.hls_time.specs.Seconds.{IsFraction}

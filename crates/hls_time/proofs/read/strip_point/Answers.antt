@@ -1,3 +1,4 @@
+-- If the text were a point and digits, all bytes after the point would be digits; but the run of digits ends before. So it is no fraction.
 use Rattle.std.proofs.Common.{sym, subst, rules, drop}
 use Rattle.std.proofs.lemmas.List.{take_rest}
 use Rattle.hls_time.specs.Digits.{AreDigits, StartsWithNoDigit}

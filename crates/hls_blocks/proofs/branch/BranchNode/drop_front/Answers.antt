@@ -1,3 +1,4 @@
+-- The child of the new first item loses its own front, and those before it are gone (`left_node`).
 use Rattle.std.proofs.Common.{refl}
 use Rattle.hls_blocks.specs.Tree.{children}
 use Rattle.hls_blocks.proofs.Held.{left_node}

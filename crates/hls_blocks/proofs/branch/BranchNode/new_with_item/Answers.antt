@@ -1,3 +1,4 @@
+-- The only child is in the slot of the number, and has the item (`single_node`).
 use Rattle.std.proofs.Common.{[], ◌∷◌}
 use Rattle.std.proofs.lemmas.Nat.{div-add-mod'}
 use Rattle.hls_blocks.proofs.Held.{single_node}

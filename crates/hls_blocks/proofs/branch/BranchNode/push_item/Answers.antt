@@ -1,3 +1,4 @@
+-- The item goes into a new child if the last one is full (`pushed_behind`), else into the last one (`pushed_last`).
 use Rattle.std.proofs.Common.{◌<◌, ◌≤◌, length, map}
 use Rattle.std.proofs.lemmas.List.{length-map}
 use Rattle.hls_blocks.proofs.Last.{room_behind, open_last, pushed_last, pushed_behind, list_by, node_by}

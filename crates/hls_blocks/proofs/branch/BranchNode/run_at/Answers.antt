@@ -1,3 +1,4 @@
+-- A run of the child that contains item n is a run of the whole node: it begins with item n, and the items after it are the node's next ones.
 use Rattle.std.proofs.Common.{arith}
 use Rattle.std.proofs.lemmas.List.{length-map}
 use Rattle.hls_blocks.proofs.Held.{run_of}

@@ -1,3 +1,4 @@
+-- By the part in which the new first item is: the settled items (`left_in_front`) or the recent ones (`left_behind`).
 use Rattle.std.proofs.Common.{◌≡◌, ◌∙◌, refl, ap}
 use Rattle.std.proofs.lemmas.List.{take_rest}
 use Rattle.hls_blocks.proofs.Leaves.{left_in_front, left_behind}

@@ -1,3 +1,4 @@
+-- With fewer than seven recent items the new one is appended to them (`recent_grown`); else all items are settled (`all_settled`).
 use Rattle.std.proofs.Common.{◌≡◌, refl, ◌∙◌, ap, arith}
 use Rattle.hls_blocks.proofs.Leaves.{recent_grown, all_settled, count_of_parts}
 use Rattle.hls_blocks.proofs.leaf.LeafNode.push_item.Goals as goal

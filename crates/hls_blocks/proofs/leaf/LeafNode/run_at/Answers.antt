@@ -1,3 +1,4 @@
+-- By the part in which the number is: the settled items (`run_in_front`) or the recent ones (`run_behind`).
 use Rattle.std.proofs.Common.{◌≡◌, ◌∙◌, refl, ap}
 use Rattle.hls_blocks.proofs.Runs.{run_in_front, run_behind}
 use Rattle.hls_blocks.proofs.leaf.LeafNode.run_at.Goals as goal

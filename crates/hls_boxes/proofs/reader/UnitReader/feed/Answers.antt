@@ -1,3 +1,5 @@
+-- A piece is refused after an earlier fault, and if an allocation fails, which changes nothing. Otherwise it is appended, and the result is
+-- its first fault, if it has one.
 use Rattle.std.proofs.Common.{◌∙◌, ◌++◌, List, ℕ, None, ap, refl, subst}
 use Rattle.hls_boxes.specs.Feed.{IsReaderState}
 use Rattle.hls_boxes.proofs.IntakeLaws.{taken-back}

@@ -1,3 +1,5 @@
+-- At the end, the fault is the earlier one; else the stream is truncated if bytes of a box are left, or a `moof` without its `mdat`.
+-- Otherwise there is none.
 use Rattle.std.proofs.Common.{arith}
 use Rattle.hls_boxes.proofs.ReaderLaws.{cut_short, ends_with_fault, moof_held, nothing_held}
 use Rattle.hls_boxes.proofs.reader.UnitReader.finish.Goals as goal

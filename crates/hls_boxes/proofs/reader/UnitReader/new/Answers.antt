@@ -1,3 +1,4 @@
+-- A new reader is in a valid state: it has no complete part and no fault, and its empty part in progress needs more bytes.
 use Rattle.std.proofs.Common.{List, None, sym, subst}
 use Rattle.hls_boxes.specs.declared.complete_part.CompletePart.{CompletePart}
 use Rattle.hls_boxes.specs.Feed.{IsReaderState}

@@ -1,3 +1,4 @@
+-- Without a complete part nothing is taken; after an allocation failure the part is put back.
 use Rattle.std.proofs.Common.{◌∙◌, List, ap, arith, sym}
 use Rattle.hls_boxes.specs.declared.complete_part.CompletePart.{CompletePart}
 use Rattle.hls_boxes.specs.Feed.{reader_bytes}

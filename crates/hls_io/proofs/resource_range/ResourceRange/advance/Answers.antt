@@ -1,3 +1,4 @@
+-- After a range has advanced by some of its bytes, it has its earlier bytes without those.
 use Rattle.std.proofs.Common.{◌∙◌, ◌-◌, ◌≤◌, length, take, drop, ap, arith}
 use Rattle.hls_io.proofs.Places.{part_behind, part_length}
 use Rattle.hls_io.proofs.resource_range.ResourceRange.advance.Goals as goal

@@ -1,3 +1,4 @@
+-- Once the text is sent, the media without their sent bytes wait; an owned text then takes copies of the next small slices.
 use Rattle.std.proofs.{Common.{◌∙◌, ◌++◌, ap}, Math.Seq.drop-length}
 use Rattle.hls_io.{specs.HeadTexts.bytes_of, proofs.Handed.media_left}
 use Rattle.hls_io.proofs.send_buffer.SendBuffer.advance.Goals as goal
