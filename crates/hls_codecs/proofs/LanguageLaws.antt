@@ -3,6 +3,7 @@ use Rattle.std.proofs.Common.{◌≡◌, ℕ, ◌<◌, ◌≤◌, true, false, L
 use Rattle.std.specs.Prelude.{bytes_eq}
 use Rattle.hls_codecs.specs.Texts.{short_in}
 
+-- in fewer than five letters there is no row
 pub short-end : (rows letters : List ℕ) → length rows < 5 → short_in rows letters ≡ None
 unfolding short_in
 short-end [] letters few = refl
@@ -12,6 +13,7 @@ short-end (a ∷ b ∷ c ∷ []) letters few = refl
 short-end (a ∷ b ∷ c ∷ d ∷ []) letters few = refl
 short-end (a ∷ b ∷ c ∷ d ∷ e ∷ rows) letters few = absurd (omega arith)
 
+-- the first row that begins with the three letters has the code of two letters after them
 pub short-found : (rows letters : List ℕ) → 5 ≤ length rows → bytes_eq letters (take 3 rows) ≡ true → Some (take 2 (drop 3 rows)) ≡ short_in rows letters
 unfolding short_in
 short-found [] letters some is = absurd (omega arith)
@@ -21,6 +23,7 @@ short-found (a ∷ b ∷ c ∷ []) letters some is = absurd (omega arith)
 short-found (a ∷ b ∷ c ∷ d ∷ []) letters some is = absurd (omega arith)
 short-found (a ∷ b ∷ c ∷ d ∷ e ∷ rows) letters some is = rw is refl
 
+-- a row that begins with other letters is passed over
 pub short-passed : (rows letters : List ℕ) → 5 ≤ length rows → bytes_eq letters (take 3 rows) ≡ false → short_in (drop 5 rows) letters ≡ short_in rows letters
 unfolding short_in
 short-passed [] letters some is = absurd (omega arith)

@@ -10,17 +10,18 @@ use Rattle.hls_codecs.specs.declared.codec.Colours.{Colours}
 use Rattle.hls_codecs.specs.declared.codec.Av1Config.{Av1Config}
 use Rattle.hls_codecs.specs.declared.codec.Vp9Config.{Vp9Config}
 
--- the number in the two bytes from one on
+-- the number in two bytes from the i-th on, big-endian
 abbrev pub half_at : ℕ → List ℕ → ℕ
 half_at i bytes = byte_at i bytes * 256 + byte_at (i + 1) bytes
 
--- H.264: version 1, and then the profile, its constraint flags and the level (ISO/IEC 14496-15 5.3.3.1)
+-- the configuration of H.264 in an `avcC`: version 1, and then profile, constraint flags and level (ISO/IEC 14496-15 5.3.3.1)
 unfoldable pub avc_config : ParameterSets → List ℕ → Option AvcConfig
 avc_config sets box =
     if nat_lt (length box) 4 || not (byte_at 0 box == 1) then None
     else Some (record { sets = sets; profile = byte_at 1 box; constraints = byte_at 2 box; level = byte_at 3 box })
 
--- H.265 (ISO/IEC 14496-15 8.3.3.1)
+-- The configuration of H.265 in an `hvcC` (ISO/IEC 14496-15 8.3.3.1): version 1, and then profile space, tier, profile,
+-- compatibility flags, constraint flags and level.
 unfoldable pub hevc_config : ParameterSets → List ℕ → Option HevcConfig
 hevc_config sets box =
     if nat_lt (length box) 13 || not (byte_at 0 box == 1) then None
@@ -38,10 +39,11 @@ hevc_config sets box =
 abbrev pub usual_colours : Colours
 usual_colours = record { primaries = 1; transfer = 1; matrix = 1; full_range = false }
 
+-- whether the colours are those that a string leaves out
 abbrev pub are_usual : Colours → Bool
 are_usual c = c.primaries == 1 && c.transfer == 1 && c.matrix == 1 && not c.full_range
 
--- bits per sample: 12 only in profile 2
+-- the bits per sample of AV1: 8, or with high bit depth 10, or 12, which only profile 2 has
 abbrev pub av1_depth : ℕ → Bool → Bool → ℕ
 av1_depth profile high twelve = if high then (if profile == 2 && twelve then 12 else 10) else 8
 

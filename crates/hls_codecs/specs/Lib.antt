@@ -1,3 +1,5 @@
+-- What an init section and units say of a track's format, and how it is written: codecs, audio channels, picture sizes, languages,
+-- and frame rates.
 pub mod Kinds
 pub mod Boxes
 pub mod Codecs

@@ -8,6 +8,7 @@ use Rattle.hls_media.specs.FirstBoxes.{media_step, whole_media, track_step, whol
 use Rattle.hls_media.proofs.Overs.{over-finish}
 use Rattle.hls_media.proofs.FirstLaws.{over-firsts}
 
+-- without a timescale or a handler there is no media, and without a number or media no track
 no_scale : (handler : Option ℕ) → media_from None handler ≡ None
 no_scale handler = refl
 
@@ -22,12 +23,14 @@ no_media : (id : Option ℕ) → track_from id None ≡ None
 no_media None = refl
 no_media (Some i) = refl
 
+-- a walk over the boxes of an `mdia` gives its media
 pub over-media_of : (content : List ℕ) → option_and_then whole_media (fold_content media_step Some (None, None) content) ≡ media_of content
 unfolding media_of
 over-media_of content =
     over-finish media_step whole_media (None, None) content
     ∙ over-firsts versioned_field handler_field mdhd_type hdlr_type media_from refl no_scale no_handler content
 
+-- a walk over the boxes of a `trak` gives its track, still without defaults
 pub over-track_at : (content : List ℕ) → option_and_then whole_track (fold_content track_step Some (None, None) content) ≡ track_at content
 unfolding track_at
 over-track_at content =

@@ -1,3 +1,5 @@
+-- The lemmas of this crate, on what is read of init sections and units: walks over boxes, the columns of a run's rows, track fragments,
+-- tracks and defaults of a `moov`, and the facts of a unit.
 mod Overs
 mod TrafLaws
 mod RunLaws

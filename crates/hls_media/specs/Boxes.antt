@@ -8,21 +8,25 @@ use Rattle.hls_media_laws.specs.Fields.{field_width, has_flag, track_id_of, tfhd
 use Rattle.hls_media.specs.declared.tfhd.Tfhd.{Tfhd}
 use Rattle.hls_media.specs.declared.trun.Trun.{Trun}
 
+-- the fields of a `tfhd` that the code keeps: its track, its flags, and the default duration, size and flags of samples
 unfoldable pub tfhd_fields : List ℕ → Tfhd
 tfhd_fields h = record { track = track_id_of h; flags = number_at w32 0 h; duration = default_duration h; size = default_size h; sample_flags = default_flags h }
 
+-- the kept fields of a `tfhd` with this content, if they are within it
 unfoldable pub tfhd_of : List ℕ → Option Tfhd
 tfhd_of h = if tfhd_fits h then Some (tfhd_fields h) else None
 
+-- the decode time of a `tfdt` with this content, if its fields are within it
 unfoldable pub tfdt_of : List ℕ → Option ℕ
 tfdt_of t = if tfdt_fits t then Some (decode_time t) else None
 
+-- the kept fields of a `trun` with this content, and where its rows are, if all of them are within it
 unfoldable pub trun_of : List ℕ → Option Trun
 trun_of r =
     if trun_fits r then Some (record { flags = number_at w32 0 r; count = sample_count r; offset = data_offset r; first_flags = first_flags_of r; rows = rows_offset r; row = row_len r })
     else None
 
--- what is known of a run
+-- the kept fields are those of the `trun` with this content, and its rows are within it
 pub record IsRun (run : Trun) (content : List ℕ) : Type 0 where
   pub kept : trun_of content ≡ Some run
   pub flags : run.flags ≡ number_at w32 0 content

@@ -3,7 +3,8 @@
 use Rattle.std.specs.Prelude.{◌≡◌, ℕ, ◌+◌, ◌*◌, ◌≤◌, List, length, sum}
 use Rattle.hls_media_laws.specs.Fields.{column}
 
--- the rows of a column, and those that remain, each with their number; and the count before the sum and now
+-- after some rows of a column, the total and the sum over the rows that remain are the sum over all rows,
+-- and one field was counted for each row
 pub record IsPartialSum (row at : ℕ) (rows rest : ℕ × List ℕ) (total before now : ℕ) : Type 0 where
   pub value : total + sum (column rest.0 row at rest.1) ≡ sum (column rows.0 row at rows.1)
   pub room : rest.0 * row ≤ length rest.1

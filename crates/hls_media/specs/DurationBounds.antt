@@ -10,13 +10,16 @@ use Rattle.hls_media.specs.RunPlacement.{IsNear}
 use Rattle.hls_media.specs.Runs.{IsBoundedRuns, IsBrief}
 use Rattle.hls_media.specs.MoofSummary.{IsBoundedSummary}
 
+-- a position that is near enough for n bytes is near enough for more
 pub near-more : (n m : ℕ) (z : ℤ) → n ≤ m → IsNear n z → IsNear m z
 near-more n m z le near = (omega (arith, ints, near.0), omega (arith, ints, near.1))
 
+-- a duration that is short enough for n bytes is short enough for more
 pub brief-more : (n m : ℕ) (sample_summary : Option SampleSummary) → n ≤ m → IsBrief n sample_summary → IsBrief m sample_summary
 brief-more n m None le brief = tt
 brief-more n m (Some t) le brief = omega (arith, le, brief)
 
+-- a summary of runs that is bounded for n bytes is bounded for more
 pub runs-more : (k : TrunVisitor) (n m : ℕ) (s : RunSummary) → n ≤ m → IsBoundedRuns k n s → IsBoundedRuns k m s
 runs-more k n m s le known = record {
   base = known.base;
@@ -24,8 +27,10 @@ runs-more k n m s le known = record {
   brief = brief-more n m s.sample_summary le known.brief;
 }
 
+-- a summary of a `moof` that is bounded for n bytes is bounded for more
 pub summary-more : (n m : ℕ) (s : MoofSummary) → n ≤ m → IsBoundedSummary n s → IsBoundedSummary m s
 summary-more n m s le known = record { near = near-more n m s.placement.end le known.near; short = known.short }
 
+-- a weight that is within n bytes is within more
 pub le-more : (n m weight : ℕ) → n ≤ m → weight ≤ n → weight ≤ m
 le-more n m weight le least = omega (arith, le, least)

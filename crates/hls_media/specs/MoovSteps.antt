@@ -15,10 +15,11 @@ pub record MoovContents : Type 0 where
   pub tracks : List Track
   pub mvex : Option (List ℕ)
 
+-- the contents of a `moov` before its first box
 abbrev pub no_contents : MoovContents
 no_contents = record { ids = []; tracks = []; mvex = None }
 
--- one more track, unless its number occurred before
+-- the contents with one more track, unless its number occurred before
 abbrev pub with_track : MoovContents → Track → Option MoovContents
 with_track s t = if list_any (λ (m : ℕ). m == t.id) s.ids then None else Some (record s { ids = s.ids ++ t.id ∷ []; tracks = first_eight s.tracks t })
 
@@ -29,6 +30,7 @@ AddsTrack true (Some t) ids tracks new_ids new_tracks = (list_any (λ (m : ℕ).
 AddsTrack false None ids tracks new_ids new_tracks = Unit {0}
 AddsTrack false (Some t) ids tracks new_ids new_tracks = list_any (λ (m : ℕ). m == t.id) ids ≡ true
 
+-- one step of the walk over a `moov`: a `trak` adds its track if it is valid and new, and the first `mvex` is kept
 abbrev pub moov_step : MoovContents → ℕ → List ℕ → Option MoovContents
 moov_step s kind content =
     if kind == trak_type then option_and_then (with_track s) (track_at content)
@@ -42,10 +44,12 @@ AreTracks (Some tracks) (Some ts) ids = (length ids ≡ length ts) × (length ts
 AreTracks None None ids = Unit {0}
 AreTracks None (Some ts) ids = ⊥
 
--- what was collected, with the content of the `mvex`
+-- what was collected of a `moov`: these numbers and tracks, and the content of the `mvex` in this range
 abbrev pub contents_with : List ℕ → List ℕ → List Track → Option ByteSpan → MoovContents
 contents_with moov ids tracks mvex = record { ids = ids; tracks = tracks; mvex = option_map (λ (s : ByteSpan). slice_range moov s.from s.to) mvex }
 
+-- the boxes before the rest of a `moov` were collected: walking on from there over the rest gives what walking over the whole gives,
+-- and each track had at least 64 bytes
 pub record HasCollectedTracks (moov : List ℕ) (ids : List ℕ) (tracks : List Track) (mvex : Option ByteSpan) (rest : List ℕ) : Type 0 where
   pub value : fold_content moov_step Some no_contents moov ≡ fold_content moov_step Some (contents_with moov ids tracks mvex) rest
   pub room : length ids * 64 ≤ length moov - length rest

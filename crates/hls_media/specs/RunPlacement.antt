@@ -8,11 +8,11 @@ use Rattle.hls_media.specs.declared.run_placement.RunPlacement.{RunPlacement}
 use Rattle.hls_media.specs.declared.run_placement.RunExtent.{RunExtent}
 use Rattle.hls_media.specs.declared.trun.Trun.{Trun}
 
--- the bytes of a run
+-- the bytes of a run: they start at its offset from the base, or else at the end of the previous run
 abbrev pub run_extent : Trun → DataWindow → RunPlacement → ℕ → RunExtent
 run_extent run f p len = record { begin = unwrap_or (option_map (λ (o : ℤ). f.base +ℤ o) run.offset) p.end; len = len }
 
--- after one more run
+-- the summary of positions after one more run
 unfoldable pub placement_after_run : Option ℕ → DataWindow → RunPlacement → List ℕ → RunPlacement
 placement_after_run default f p r =
     let begin = run_begin f.base p.end r in
@@ -23,6 +23,6 @@ placement_after_run default f p r =
 abbrev pub IsNear : ℕ → ℤ → Type 0
 IsNear n z = (neg_ℤ (pos (n * 2 ^ 62)) ≤ℤ z) × (z ≤ℤ pos (n * 2 ^ 62))
 
--- the same, plus 2 ^ 31
+-- at most n times 2 ^ 62, plus 2 ^ 31, in absolute value
 abbrev pub IsAround : ℕ → ℤ → Type 0
 IsAround n z = (neg_ℤ (pos (n * 2 ^ 62 + 2 ^ 31)) ≤ℤ z) × (z ≤ℤ pos (n * 2 ^ 62 + 2 ^ 31))

@@ -16,6 +16,8 @@ abbrev pub layout_of_rest : List ℕ → Option FoundMoof → List ℕ → Optio
 layout_of_rest unit None rest = option_and_then layout_of_boxes (children rest)
 layout_of_rest unit (Some m) rest = option_and_then (with_mdat (slice_range unit m.from m.to) (length unit - length rest - m.begin)) (children rest)
 
+-- the boxes before the rest were read: the `moof` that was found, if any, and the rest give the layout of the whole unit,
+-- and at most one field was counted for each byte read
 pub record HasScannedUnit (unit : List ℕ) (met : Option FoundMoof) (rest : List ℕ) (before now : ℕ) : Type 0 where
   pub value : option_and_then layout_of_boxes (children unit) ≡ layout_of_rest unit met rest
   pub within : length rest ≤ length unit
@@ -23,7 +25,7 @@ pub record HasScannedUnit (unit : List ℕ) (met : Option FoundMoof) (rest : Lis
   pub met_is : IfSome met (λ m. (m.begin ≤ m.from) × (m.from ≤ m.to) × (m.to ≤ length unit - length rest))
   pub counted : RisesBy (length unit - length rest) before now
 
--- the same for the boxes of an init section
+-- the boxes before the rest of an init section were read, and its `moov` is the one of the rest
 pub record HasScannedInit (bytes rest : List ℕ) : Type 0 where
   pub value : option_and_then moov_of_boxes (children bytes) ≡ option_and_then moov_of_boxes (children rest)
   pub within : length rest ≤ length bytes

@@ -37,9 +37,11 @@ pub record IsBounded (init : InitData) (bytes : List ℕ) : Type 0 where
   pub in_range : init.timing < length init.tracks
   pub some_scale : 0 < (timing_track init).scale
 
+-- the facts of every unit are within their bounds
 abbrev pub UnitsAreBounded : Type 0
 UnitsAreBounded = (init : InitData) (bytes : List ℕ) (f : Facts) → IsUnit init bytes f → AreBounded f bytes
 
+-- every init section is within its bounds
 abbrev pub InitsAreBounded : Type 0
 InitsAreBounded = (bytes : List ℕ) (init : InitData) → IsInit bytes init → IsBounded init bytes
 

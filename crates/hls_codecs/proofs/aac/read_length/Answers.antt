@@ -1,3 +1,4 @@
+-- Each byte adds seven bits to the length, which stay small enough, and one below 128 ends it (DescriptorLaws).
 use Rattle.std.proofs.Common.{◌<◌, refl, sym, ◌∙◌, arith}
 use Rattle.std.proofs.lemmas.List.{take_rest}
 use Rattle.hls_codecs.proofs.DescriptorLaws.{length-end, length-cut, length-last, length-next, length-bound, length-small}

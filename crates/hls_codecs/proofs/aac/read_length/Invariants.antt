@@ -1,3 +1,4 @@
+-- The length of the bytes still to read, after those read, is that of the descriptor.
 use Rattle.std.proofs.Common.{◌≡◌, ◌-◌, ◌<◌, ◌≤◌, ◌^◌}
 use Rattle.hls_codecs.specs.Audio.{descriptor_length}
 use Rattle.hls_codecs.proofs.aac.read_length.Given as goal

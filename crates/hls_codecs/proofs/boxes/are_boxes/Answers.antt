@@ -1,3 +1,4 @@
+-- Boxes fill the bytes if the headers can be read up to the end. If one can't be read, none fill the rest, so none fill the bytes.
 use Rattle.std.proofs.Common.{◌≡◌, ◌<◌, length, sym, ◌∙◌, arith}
 use Rattle.std.proofs.lemmas.Bool.Decides.{nat_tests}
 use Rattle.std.proofs.lemmas.List.{take_rest}

@@ -1,3 +1,4 @@
+-- Before each round, boxes fill the bytes if and only if boxes fill the rest. The rest gets shorter.
 use Rattle.std.proofs.Common.{◌≡◌, length}
 use Rattle.std.specs.Prelude.{is_some}
 use Rattle.hls_boxes.specs.Boxes.{children}

@@ -1,3 +1,4 @@
+-- The number is read from the highest bit on: each round appends one bit to the value, and after the last one no bit remains.
 use Rattle.std.proofs.Common.{◌≡◌, arith}
 use Rattle.hls_codecs.specs.Boxes.{bits_at}
 use Rattle.hls_codecs.proofs.BitLaws.{bits-next, bits-end, bits-bound}

@@ -1,3 +1,4 @@
+-- Before each round, the value so far, followed by the bits that remain, is the number. It is below 2 to the power of the bits so far.
 use Rattle.std.proofs.Common.{◌≡◌, ◌+◌, ◌-◌, ◌*◌, ◌^◌, ◌<◌}
 use Rattle.hls_codecs.specs.Boxes.{bits_at}
 use Rattle.hls_codecs.proofs.boxes.bits_at.Given as goal

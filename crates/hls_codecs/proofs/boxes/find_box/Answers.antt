@@ -1,3 +1,4 @@
+-- Each box before the one that is looked for is counted or passed over (BoxSearches).
 use Rattle.std.proofs.Common.{◌≡◌, ◌<◌, length, drop, true, false, Some, sym, ◌∙◌, arith}
 use Rattle.std.specs.Prelude.{is_some}
 use Rattle.std.proofs.lemmas.Bool.Decides.{nat_tests}

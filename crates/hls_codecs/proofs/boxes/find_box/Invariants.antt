@@ -1,3 +1,4 @@
+-- Before each round, the wanted box is box `left` of its type in the rest, which gets shorter.
 use Rattle.std.proofs.Common.{◌≡◌, length}
 use Rattle.hls_codecs.specs.Boxes.{box_in}
 use Rattle.hls_codecs.proofs.boxes.find_box.Given as goal

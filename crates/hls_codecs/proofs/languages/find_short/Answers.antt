@@ -1,3 +1,4 @@
+-- The code of two letters is the one in the first row that begins with the three letters; if no row of five bytes is left, there is none.
 use Rattle.std.proofs.Common.{sym, ◌∙◌}
 use Rattle.std.proofs.lemmas.List.{take_rest}
 use Rattle.hls_codecs.proofs.LanguageLaws.{short-end, short-found, short-passed}

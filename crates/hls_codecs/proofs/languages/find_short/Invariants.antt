@@ -1,3 +1,4 @@
+-- Before each round, the code in all rows is the one in the remaining rows. They get shorter.
 use Rattle.std.proofs.Common.{◌≡◌, length}
 use Rattle.hls_codecs.specs.Texts.{short_in}
 use Rattle.hls_codecs.proofs.languages.find_short.Given as goal

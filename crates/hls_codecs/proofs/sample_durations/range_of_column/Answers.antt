@@ -1,3 +1,4 @@
+-- Each row adds its duration to the range, and after the last one the range is that of the column (DurationLaws).
 use Rattle.std.proofs.Common.{◌≡◌, ◌+◌, ◌<◌, length, min, ap, ◌∙◌, arith}
 use Rattle.std.proofs.lemmas.List.{take_rest, length-drop}
 use Rattle.hls_codecs.specs.declared.sample_durations.DurationRange.{DurationRange}

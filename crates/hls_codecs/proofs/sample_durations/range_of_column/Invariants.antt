@@ -1,3 +1,4 @@
+-- The range of the rows read, and of the rows still to read, is that of the column; the sum is small enough for 64 bits.
 use Rattle.std.proofs.Common.{◌≡◌, ◌+◌, ◌-◌, ◌*◌, ◌^◌, ◌≤◌, length, drop}
 use Rattle.std.specs.Int.{w32}
 use Rattle.std.specs.List.{fold}

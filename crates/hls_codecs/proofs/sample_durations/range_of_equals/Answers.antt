@@ -1,3 +1,4 @@
+-- The range of equal durations has this duration as its least and its most, and their sum as its total. If the count is 0, there is none.
 use Rattle.std.proofs.Common.{arith}
 use Rattle.hls_codecs.proofs.DurationLaws.{equals-none, equals-some}
 use Rattle.hls_codecs.proofs.sample_durations.range_of_equals.Goals as goal

@@ -1,3 +1,4 @@
+-- The range is that of the first track fragment of the track, among the first eight; there is none if none of them is the track's.
 use Rattle.std.proofs.Common.{◌≡◌, ◌-◌, ◌+◌, sym, ◌∙◌, arith}
 use Rattle.hls_codecs.proofs.DurationLaws.{from-end, from-none, from-found, from-other}
 use Rattle.hls_codecs.proofs.sample_durations.range_of_moof.Goals as goal

@@ -1,3 +1,4 @@
+-- Before each round, the range is the one that the remaining track fragments of the first eight give.
 use Rattle.std.proofs.Common.{◌≡◌, ◌-◌, ◌≤◌}
 use Rattle.hls_codecs.specs.FrameRates.{range_from}
 use Rattle.hls_codecs.proofs.sample_durations.range_of_moof.Given as goal

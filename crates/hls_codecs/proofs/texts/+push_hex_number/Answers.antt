@@ -1,3 +1,4 @@
+-- The digits before the last one are written first, if there are any (TextLaws).
 use Rattle.std.proofs.Common.{append-nil, sym, arith}
 use Rattle.hls_codecs.proofs.TextLaws.{hex-none, hex-pushed_last, hex-pushed_more}
 use Rattle.hls_codecs.proofs.texts.+push_hex_number.Goals.{then-n-ge16+in_ok-push_hex_number, else-n-ge16}

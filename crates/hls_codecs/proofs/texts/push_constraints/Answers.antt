@@ -1,3 +1,4 @@
+-- The text gets a point and a hexadecimal number for each constraint byte up to the last one that isn't 0; zeros at the end get nothing.
 use Rattle.std.proofs.Common.{◌++◌, sym, ◌∙◌}
 use Rattle.std.proofs.lemmas.List.{take_rest}
 use Rattle.hls_codecs.specs.Texts.{constraint_texts}

@@ -1,3 +1,4 @@
+-- The format of a video track is the one that the definition reads of its sample entry: the boxes follow the 78 bytes of fields.
 use Rattle.std.proofs.Common.{◌∙◌}
 use Rattle.std.proofs.lemmas.List.{take_rest}
 use Rattle.hls_codecs.proofs.TrackLaws.{video-boxes}

@@ -1,3 +1,4 @@
+-- One box is one step of the walk (`over-next`), and takes at most the given number of fields for each of its bytes (`counted-more`).
 use Rattle.std.proofs.Common.{slice_range, ◌≡◌, ℕ, ◌+◌, ◌-◌, ◌^◌, ◌<◌, ◌≤◌, length, drop, Some, None, sym, ◌∙◌, arith}
 use Rattle.std.proofs.lemmas.Bool.Decides.{nat_tests}
 use Rattle.std.proofs.lemmas.List.{take_rest, length-drop}

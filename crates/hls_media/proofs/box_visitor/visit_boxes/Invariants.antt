@@ -1,3 +1,5 @@
+-- The walk over the rest from the present state gives what the walk over the whole content gives, and the state and the count are bounded by the
+-- bytes that were walked over.
 use Rattle.std.proofs.Common.{◌≡◌, ◌-◌, ◌*◌, ◌≤◌, length, Some}
 use Rattle.hls_media.specs.RisesBy.{RisesBy}
 use Rattle.hls_media.specs.Folds.{fold_content}

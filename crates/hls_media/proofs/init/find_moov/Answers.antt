@@ -1,3 +1,5 @@
+-- A `moov` that is the last box is found. Before another box it isn't; a `moof`, an `mdat` or a bad box ends the search; other boxes are skipped
+-- (MoovPlace).
 use Rattle.std.proofs.Common.{rules, tests, inl, inr, ◌≡◌, ◌-◌, ◌<◌, length, Some, sym, ◌∙◌, ap, arith}
 use Rattle.std.proofs.lemmas.Bool.Decides.{nat_tests}
 use Rattle.std.proofs.lemmas.List.{take_rest, length-drop}

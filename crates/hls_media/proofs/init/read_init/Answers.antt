@@ -1,3 +1,4 @@
+-- The result is the init section, or its fault: a bad box, no track, or too many tracks, the first that applies (InitReads).
 use Rattle.std.proofs.Common.{slice_range, subst, ◌≡◌, length, Some, sym, arith}
 use Rattle.hls_media_laws.specs.Inits.{init_of, init_of_tracks}
 use Rattle.hls_media_laws.specs.IsInitOrUnit.{ReadsAs}

@@ -1,3 +1,4 @@
+-- A `traf` is valid if both walks over its boxes find it so (`no-heading`, `no-runs`), and then the summary has it (`tally_is`).
 use Rattle.std.proofs.Common.{subst, ◌≡◌, ◌+◌, length, refl, sym, ◌∙◌, ap, arith}
 use Rattle.hls_media.specs.declared.run_placement.DataWindow.{DataWindow}
 use Rattle.hls_media.specs.declared.traf_runs.TrunVisitor.{TrunVisitor}

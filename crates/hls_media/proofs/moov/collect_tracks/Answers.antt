@@ -1,3 +1,4 @@
+-- Each box is one step of the walk by its type: `trak` by `visitor-trak`, `mvex` by `visitor-mvex`, others by `visitor-other`.
 use Rattle.std.proofs.Common.{rules, tests, slice_range, ◌≡◌, ◌+◌, ◌-◌, ◌<◌, length, Some, None, refl, sym, ◌∙◌, arith}
 use Rattle.std.proofs.lemmas.Bool.Decides.{nat_tests}
 use Rattle.std.proofs.lemmas.List.{take_rest, length-drop}

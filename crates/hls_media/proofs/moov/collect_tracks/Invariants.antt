@@ -1,3 +1,4 @@
+-- Before each round, to continue with what was collected over the remaining boxes gives what the whole `moov` gives. The rest gets shorter.
 use Rattle.std.proofs.Common.{length}
 use Rattle.hls_media.specs.MoovSteps.{HasCollectedTracks}
 use Rattle.hls_media.proofs.moov.collect_tracks.Given as goal

@@ -1,3 +1,4 @@
+-- The tracks of a `moov` are those collected, with the defaults of its `mvex` if it has one; if a box isn't valid, there are none.
 use Rattle.std.proofs.Common.{slice_range, option_map, ap}
 use Rattle.hls_media.specs.declared.moov.ByteSpan.{ByteSpan}
 use Rattle.hls_media.specs.MoovSteps.{contents_with}

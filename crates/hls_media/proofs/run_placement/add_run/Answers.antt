@@ -1,3 +1,5 @@
+-- The placement after a run is the defined one. If its base and its end were within n times 2^62 of 0, the new end is within n plus the
+-- content's length times that.
 use Rattle.std.proofs.Common.{rules, ◌+◌, ◌^◌, ◌<◌, length, refl, arith}
 use Rattle.hls_media_laws.specs.Runs.{run_begin}
 use Rattle.hls_media.specs.RunPlacement.{placement_after_run}

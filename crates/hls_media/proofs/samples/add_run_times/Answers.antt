@@ -1,3 +1,4 @@
+-- The summary of the samples after a run is the defined one, and the duration grows by at most 2^61 ticks for each byte of the run.
 use Rattle.std.proofs.Common.{rules, ◌^◌, ◌<◌, refl, arith}
 use Rattle.hls_media.specs.SampleSummary.{samples_after_run}
 use Rattle.hls_media.proofs.samples.add_run_times.Goals as goal

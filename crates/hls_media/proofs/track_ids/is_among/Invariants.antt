@@ -1,3 +1,4 @@
+-- Before each round, the number is among all numbers if and only if it is among the remaining ones.
 use Rattle.std.proofs.Common.{◌≡◌, ℕ, ◌==◌, drop}
 use Rattle.std.specs.List.{list_any}
 use Rattle.hls_media.proofs.track_ids.is_among.Given as goal

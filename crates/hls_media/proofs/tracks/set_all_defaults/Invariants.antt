@@ -1,3 +1,4 @@
+-- Before each round, to set the defaults of the remaining tracks, too, gives what setting those of all tracks gives.
 use Rattle.std.proofs.Common.{◌≡◌, ◌++◌, map, take, drop}
 use Rattle.hls_media.specs.TrexSteps.{track_with_defaults}
 use Rattle.hls_media.proofs.tracks.set_all_defaults.Given as goal

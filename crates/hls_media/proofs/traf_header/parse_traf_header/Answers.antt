@@ -1,3 +1,4 @@
+-- The result is the header of the track fragment: the visit folds the boxes as the definition does. If the visit fails, there is no header.
 use Rattle.std.proofs.Common.{option_and_then, sym, ◌∙◌, ap}
 use Rattle.hls_media.specs.TrafHeaders.{header_step, no_header, finished_header}
 use Rattle.hls_media.proofs.Overs.{over-finish}

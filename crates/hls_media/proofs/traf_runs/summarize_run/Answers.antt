@@ -1,3 +1,4 @@
+-- The bounds of the positions and of the samples hold after this run, and so for the bytes of its whole box (`near-more`, `brief-more`).
 use Rattle.std.proofs.Common.{◌+◌, ◌^◌, length, refl, arith}
 use Rattle.hls_media.specs.DurationBounds.{near-more, brief-more}
 use Rattle.hls_media.specs.Runs.{summary_after_run}

@@ -1,3 +1,4 @@
+-- The result is the timescale and the handler as defined: the visit finds the same boxes. If the visit fails, there are none.
 use Rattle.std.proofs.Common.{option_and_then, sym, ◌∙◌, ap}
 use Rattle.hls_media.specs.FirstBoxes.{whole_media}
 use Rattle.hls_media.proofs.InitLaws.{over-media_of}

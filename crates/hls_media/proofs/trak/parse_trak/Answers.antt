@@ -1,3 +1,4 @@
+-- The result is the track as defined: the visit finds the same boxes. If the visit fails, there is no track.
 use Rattle.std.proofs.Common.{option_and_then, sym, ◌∙◌, ap}
 use Rattle.hls_media.specs.FirstBoxes.{whole_track}
 use Rattle.hls_media.proofs.InitLaws.{over-track_at}

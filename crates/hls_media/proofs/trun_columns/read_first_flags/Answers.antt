@@ -1,3 +1,4 @@
+-- The flags of a run's first sample are those that the run has for it, otherwise those in its row, otherwise the default.
 use Rattle.std.proofs.Common.{refl}
 use Rattle.hls_media_laws.specs.Runs.{first_sample_flags}
 use Rattle.hls_media.proofs.trun_columns.read_first_flags.Goals as goal

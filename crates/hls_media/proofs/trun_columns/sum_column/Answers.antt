@@ -1,3 +1,4 @@
+-- Each row adds its number to the total (`column-step`), until none is left (`column-none`).
 use Rattle.std.proofs.Common.{◌≡◌, ◌<◌, length, arith}
 use Rattle.std.proofs.lemmas.List.{take_rest, length-drop}
 use Rattle.hls_media.proofs.ColumnLaws.{rows_less, column-step, column-none}

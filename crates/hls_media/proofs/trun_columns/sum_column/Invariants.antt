@@ -1,3 +1,4 @@
+-- Before each round, the total and the sum over the remaining rows are the sum over all rows, and one field was counted for each row so far.
 use Rattle.hls_media.specs.ColumnLoop.{IsPartialSum}
 use Rattle.hls_media.proofs.trun_columns.sum_column.Given as goal
 

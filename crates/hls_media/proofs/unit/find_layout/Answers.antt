@@ -1,3 +1,5 @@
+-- A unit has a layout if it is within the limit, has one `moof` and no `moov`, and ends with its first `mdat`. The next box's type decides
+-- (UnitLaws).
 use Rattle.std.proofs.Common.{rules, tests, ◌≡◌, ◌-◌, ◌<◌, length, drop, sym, ◌∙◌, arith}
 use Rattle.std.proofs.lemmas.Bool.Decides.{nat_tests}
 use Rattle.std.proofs.lemmas.List.{take_rest, length-drop}

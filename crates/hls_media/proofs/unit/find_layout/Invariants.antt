@@ -1,3 +1,4 @@
+-- Before each round, the remaining boxes and the `moof` that was found, if any, determine the layout of the whole unit. The rest gets shorter.
 use Rattle.std.proofs.Common.{length}
 use Rattle.hls_media.specs.UnitLayout.{HasScannedUnit}
 use Rattle.hls_media.proofs.unit.find_layout.Given as goal

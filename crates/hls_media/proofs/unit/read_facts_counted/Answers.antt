@@ -1,3 +1,4 @@
+-- Bytes that aren't exactly one unit are refused with `BadBox`; otherwise the facts are those of the `moof` (`facts-cases`).
 use Rattle.std.proofs.Common.{length, ap, ◌∙◌}
 use Rattle.hls_media_laws.specs.FactCases.{facts_of_layout}
 use Rattle.hls_media_laws.proofs.Callers.{facts-cases}

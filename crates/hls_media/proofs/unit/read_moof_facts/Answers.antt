@@ -1,3 +1,4 @@
+-- The facts of a unit, or its first fault, are the defined ones: they follow from the summary of its `moof`. Without a summary a box is bad.
 use Rattle.std.proofs.Common.{sym, ◌∙◌, ap}
 use Rattle.hls_media.specs.MoofSummary.{facts_context, facts_of_read_summary}
 use Rattle.hls_media.proofs.FactLaws.{judged-facts}

@@ -1,3 +1,5 @@
+-- Each track with the number of the `trex` gets its defaults unless it has some: they are set in all slots, and the tracks are the first
+-- of these.
 use Rattle.std.proofs.lemmas.List.{take-map}
 use Rattle.hls_media.specs.TrexSteps.{track_with_defaults}
 use Rattle.hls_media.proofs.tracks.Tracks.set_defaults.Goals as goal

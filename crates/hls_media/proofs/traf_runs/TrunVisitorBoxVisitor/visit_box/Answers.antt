@@ -1,3 +1,4 @@
+-- A `trun` is added to the summary if its fields are within it; other boxes leave the summary and its bounds.
 use Rattle.std.proofs.Common.{◌+◌, length, Some, refl, sym, ◌∙◌, ap, arith}
 use Rattle.hls_media.specs.DurationBounds.{runs-more}
 use Rattle.hls_media.specs.Runs.{summary_after_trun}

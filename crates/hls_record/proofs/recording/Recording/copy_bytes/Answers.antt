@@ -1,3 +1,4 @@
+-- The bytes that a round appends are the resource's next ones, so the copy still equals the resource from `a` to the new place.
 use Rattle.std.proofs.Common.{arith}
 use Rattle.std.proofs.lemmas.List.{length-take-le}
 use Rattle.hls_record.proofs.Ranges.{copied_more}

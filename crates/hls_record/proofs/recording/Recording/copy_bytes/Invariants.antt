@@ -1,3 +1,4 @@
+-- Before each round, the copy has the bytes of the resource from `a` up to `at`, which is at most `b`. Each round comes nearer to `b`.
 use Rattle.std.proofs.Common.{◌≡◌, ◌-◌, ◌≤◌, map, take, drop, Some}
 use Rattle.hls_record.specs.RecordingData.{bytes_of}
 use Rattle.hls_record.proofs.recording.Recording.copy_bytes.Given as goal

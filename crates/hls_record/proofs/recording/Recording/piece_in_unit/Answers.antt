@@ -1,3 +1,4 @@
+-- Unit n is kept, and byte `at` is in it. So the bytes from there to the unit's end are the piece at `at`.
 use Rattle.std.proofs.Common.{length, arith, ap}
 use Rattle.std.proofs.lemmas.List.{take_rest}
 use Rattle.hls_record.specs.Model.{model_of}

@@ -1,3 +1,4 @@
+-- A byte that isn't trimmed has a piece, and the part of it before `b` isn't empty.
 use Rattle.std.proofs.Common.{◌≡◌, ◌∙◌, arith, sym, Some, None, length-take}
 use Rattle.std.proofs.lemmas.List.{length-map}
 use Rattle.hls_record.proofs.Pieces.{kept_piece, piece_bytes}
