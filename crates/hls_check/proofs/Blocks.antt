@@ -1,3 +1,4 @@
+-- From the first broken step of a block to the first of all.
 use Rattle.std.proofs.Common.{ℕ, inl, inr, arith}
 use Rattle.std.proofs.lemmas.Bool.{cases_lt}
 use Rattle.hls_check_tables.specs.Tables.{Table}

@@ -1,3 +1,4 @@
+-- A search through blocks of 32 places, whose flags are computed in parallel.
 use Rattle.std.proofs.Common.{◌≡◌, ℕ, zero, suc, ◌+◌, ◌-◌, ◌*◌, ◌<◌, ◌≤◌, List, [], ◌∷◌, Option, Some, None, Bool, true, false, slice_get, MatchOption, inl, inr, arith, ◌/◌, length}
 use Rattle.std.specs.Bool.{MatchBool}
 use Rattle.std.specs.List.{AllZip, range_with_len}
@@ -11,11 +12,11 @@ use Rattle.hls_check.specs.Faults.{IsFirstBrokenStep}
 use Rattle.hls_check.specs.Rows.{StepKeepsPrices, RowsKeepPrices, BlockKeepsPrices, IsFirstBadBlock, IsFirstOfRows}
 use Rattle.hls_check.proofs.Blocks.{first_of_all}
 
--- the result for a block
+-- the flag that was computed for block b says whether it has a step that breaks the prices
 abbrev pub IsToldAt : Table → ClaimData → ℕ → Bool → Type 0
 IsToldAt t shown b bad = (p : Bor ℕ) × (p.now ≡ b) × MatchBool bad (BlockKeepsPrices t shown p.now → ⊥) (BlockKeepsPrices t shown p.now)
 
--- the first block whose result is true
+-- the first of n blocks from a on whose flag is true is the first bad block; if there is none, all steps from them respect the prices
 first_yes : (t : Table) (shown : ClaimData) (a n : ℕ) (bs : List Bool) → AllZip (IsToldAt t shown) (range_with_len a n) bs →
     MatchOption (slice_get (filter_by_mask (range_with_len a n) bs) 0)
     ((b : ℕ) → a ≤ b → b < a + n → BlockKeepsPrices t shown b) (IsFirstBadBlock t shown a (a + n))
@@ -51,6 +52,7 @@ first_yes t shown a (suc n) (false ∷ bs) told =
           ];
     }
 
+-- the same for a search through `from..to` that returns the first item with a true flag
 pub first_told : (t : Table) (shown : ClaimData) (from to start end : ℕ) → from ≤ to → start ≡ from → end ≡ to →
     (xs : List ℕ) (bs : List Bool) (r : Option ℕ) → xs ≡ nat_range start end → AllZip (IsToldAt t shown) xs bs →
     r ≡ slice_get (filter_by_mask xs bs) 0 →
@@ -61,11 +63,11 @@ first_told t shown from to start end order is_start is_end xs bs r is told found
     let first = first_yes t shown from (to - from) bs (rw list at told) in
     rw (found, list) (rw whole at first)
 
--- the rows of some blocks
+-- if the first n blocks respect the prices, so do all steps from their places
 pub rows_of_blocks : (t : Table) (shown : ClaimData) (n : ℕ) → ((b : ℕ) → b < n → BlockKeepsPrices t shown b) → RowsKeepPrices t shown 0 (n * 32)
 rows_of_blocks t shown n keep i j from below = keep (i / 32) (omega (arith, below)) i j (omega arith) (omega arith)
 
--- so the first broken step of the first bad block is the first of all
+-- the first broken step of the first bad block is the first of all, if the blocks before the search respect the prices
 pub first_of_bad : (t : Table) (shown : ClaimData) (done end block : ℕ) (r : Option (ℕ × ℕ)) →
     ((b : ℕ) → b < done → BlockKeepsPrices t shown b) → IsFirstBadBlock t shown done end block →
     MatchOption r (BlockKeepsPrices t shown block) (λ step. IsFirstOfRows t shown (block * 32) (block * 32 + 32) step.0 step.1) →

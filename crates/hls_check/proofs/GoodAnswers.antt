@@ -1,3 +1,4 @@
+-- The checker's result is Ok for a good certificate, and for no other.
 use Rattle.std.proofs.Common.{ℕ, List, Option, Bool, Result, Ok, Err, IsOk, refl}
 use Rattle.hls_check_tables.specs.declared.cert_fault.CertFault.{CertFault}
 use Rattle.hls_check_tables.specs.declared.cert_fault.CertFault.TheVariants.{Form, TableNotSorted, PlanEnds, PlanStep, PlanCost, PriceStart, PriceStep, EndReached, Memory}
@@ -25,6 +26,7 @@ cut_fault t ok total plan prices (PriceStep p q) answer good =
 cut_fault t ok total plan prices EndReached answer good = answer
 cut_fault t ok total plan prices Memory answer good = answer
 
+-- a closed set with a fault isn't good
 pub none_fault : (t : Table) (closed : List Bool) (fault : CertFault) →
     NoneCheckResult t closed (Err fault) → IsGoodNone t closed → ⊥
 none_fault t closed (Form line) answer good = answer
@@ -41,7 +43,7 @@ none_fault t closed EndReached answer good =
     cc
 none_fault t closed Memory answer good = answer
 
--- the result is Ok for every good certificate, and for no other
+-- if the result is Ok, the certificate is good
 pub good_from_ok : (c : CertificateData) (r : Result Verdict CertFault) → IsCheckResult c r → IsOk r → IsGood c
 good_from_ok c r answer is_ok = good_over c.table c.shown r answer is_ok
   where
@@ -52,6 +54,7 @@ good_from_ok c r answer is_ok = good_over c.table c.shown r answer is_ok
     good_over t (NoneClaim closed) (Ok NoCut) answer is_ok = answer
     good_over t shown (Err fault) answer is_ok = cc
 
+-- if a claim over a table is good, its result is Ok
 ok_over : (t : Table) → IsTable t → (shown : ClaimData) (r : Result Verdict CertFault) → CheckResultOver t shown r →
     IsGoodOver t shown → IsOk r
 ok_over t ok (CutClaim total plan prices) (Ok verdict) answer good = refl
@@ -60,5 +63,6 @@ ok_over t ok (CutClaim total plan prices) (Err fault) answer good =
 ok_over t ok (NoneClaim closed) (Ok verdict) answer good = refl
 ok_over t ok (NoneClaim closed) (Err fault) answer good = absurd (none_fault t closed fault answer good)
 
+-- if the certificate is good, the result is Ok
 pub ok_from_good : (c : CertificateData) → IsTable c.table → (r : Result Verdict CertFault) → IsCheckResult c r → IsGood c → IsOk r
 ok_from_good c ok r answer good = ok_over c.table ok c.shown r answer good

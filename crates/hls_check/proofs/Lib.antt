@@ -1,3 +1,5 @@
+-- Lemmas on a certificate's check and its text: steps that respect the prices, searches by blocks of rows,
+-- and readers, scans and writers of the lines.
 mod PlanLists
 mod GoodAnswers
 pub mod OneAnswer

@@ -9,12 +9,12 @@ use Rattle.hls_check.specs.Text.{header_line, ruled_header_line, rule_lines, tar
 use Rattle.hls_check.specs.Stages.{IsPlaceLine, IsPriceLine, IsClosedLine, place_after_priced, place_after_closed}
 use Rattle.hls_check.proofs.Spellings.{number_same, other_first, RisesFrom, ClimbsFrom, priced_line_same}
 
--- there is a next line, and it is valid
+-- there is a next line among these, and it is valid
 abbrev pub Next : (List ℕ → Type 0) → List (List ℕ) → Type 0
 Next IsGood [] = ⊥
 Next IsGood (line ∷ more) = IsGood line
 
--- one more place, if fewer places were read than there are
+-- if fewer places were read than a certificate with the same lines has, its next line is a place line
 pub place_next : (renditions : ℕ) (ps qs : List (List Spot)) (tail xs : List (List ℕ)) → length qs < length ps →
     All (IsPlaceOf renditions) ps → map place_line ps ++ tail ≡ map place_line qs ++ xs → Next (IsPlaceLine renditions) xs
 place_next renditions [] qs tail xs h good e = absurd (omega arith)
@@ -24,7 +24,7 @@ place_next renditions (p ∷ ps) (q ∷ qs) tail xs h good e =
     let tails : map place_line ps ++ tail ≡ map place_line qs ++ xs = ap (drop 1) e in
     place_next renditions ps qs tail xs (omega arith) (All-tail (IsPlaceOf renditions) p ps good) tails
 
--- what follows the places, if all were read
+-- if as many places were read as there are, the lines after them agree
 pub places_passed : (ps qs : List (List Spot)) (tail xs : List (List ℕ)) → length ps ≡ length qs →
     map place_line ps ++ tail ≡ map place_line qs ++ xs → tail ≡ xs
 places_passed [] [] tail xs h e = e
@@ -32,12 +32,13 @@ places_passed [] (q ∷ qs) tail xs h e = absurd (omega arith)
 places_passed (p ∷ ps) [] tail xs h e = absurd (omega arith)
 places_passed (p ∷ ps) (q ∷ qs) tail xs h e = places_passed ps qs tail xs (omega arith) (ap (drop 1) e)
 
--- the version line determines the version, and the rule lines determine the rule
+-- the first lines of the two versions differ
 pub other_version : header_line ≡ ruled_header_line → ⊥
 other_version e =
     let last : get_or header_line 20 0 ≡ get_or ruled_header_line 20 0 = ap (λ (line : List ℕ). get_or line 20 0) e in
     omega (arith, last)
 
+-- lists of lines that begin with the lines of a rule each, and are equal, have the same rule and the same lines after it
 pub rules_same : (r s : CostRule) (xs ys : List (List ℕ)) → charge_of r ≤ 3600000000 → charge_of s ≤ 3600000000 →
     rule_lines r ++ xs ≡ rule_lines s ++ ys → (r ≡ s) × (xs ≡ ys)
 rules_same Deviation Deviation xs ys r_small s_small e = (refl, ap (drop 1) e)
@@ -50,12 +51,13 @@ rules_same (Charged a) (Charged b) xs ys r_small s_small e = (
   ap (drop 2) e,
 )
 
--- the lines of a table after its rule, and the lines that follow the table
+-- the lines of a table after its rule, then `tail`
 abbrev pub behind_rule : Table → List (List ℕ) → List (List ℕ)
 behind_rule t tail =
     target_line t.goal.target ∷ preferred_line t.goal.preferred ∷ renditions_line t.renditions ∷ places_line (length t.places)
     ∷ (map place_line t.places ++ tail)
 
+-- the lines of a table, then `tail`, are the lines of its rule and the lines after the rule
 pub rule_first : (t : Table) (tail : List (List ℕ)) → table_lines t ++ tail ≡ rule_lines t.goal.rule ++ behind_rule t tail
 unfolding table_lines
 rule_first t tail =
@@ -64,7 +66,7 @@ rule_first t tail =
     (target_line t.goal.target ∷ preferred_line t.goal.preferred ∷ renditions_line t.renditions ∷ places_line (length t.places) ∷ [])
     (map place_line t.places ++ tail)
 
--- the counts' lines determine the numbers of renditions and places
+-- if lists of lines are equal and have the lines of the two counts after two others, the counts and the lines after them are equal
 pub counts_same : (r n r' n' : ℕ) → r ≤ 16 → n ≤ 16384 → r' ≤ 16 → n' ≤ 16384 →
     (a b a' b' : List ℕ) (xs ys : List (List ℕ)) →
     a ∷ b ∷ renditions_line r ∷ places_line n ∷ xs ≡ a' ∷ b' ∷ renditions_line r' ∷ places_line n' ∷ ys →
@@ -87,6 +89,7 @@ pub record AreAlike (t u : Table) (tail xs : List (List ℕ)) : Type 0 where
   pub count : length t.places ≡ length u.places
   pub places : map place_line t.places ++ tail ≡ map place_line u.places ++ xs
 
+-- two tables with the same lines, each followed by more, agree in their rule and their counts
 pub tables_alike : (t u : Table) (tail xs : List (List ℕ)) → IsTable t → IsTable u →
     table_lines t ++ tail ≡ table_lines u ++ xs → AreAlike t u tail xs
 tables_alike t u tail xs t_good u_good e =
@@ -100,14 +103,14 @@ tables_alike t u tail xs t_good u_good e =
     (map place_line t.places ++ tail) (map place_line u.places ++ xs) told.1 in
     record { rule = told.0; behind = told.1; renditions = counts.0; count = counts.1; places = counts.2 }
 
--- the lines after a table, given a table that begins with the same lines
+-- if the lines of two tables, each followed by more, are equal, the tables have as many places, and what follows them is equal
 pub table_passed : (t u : Table) (tail xs : List (List ℕ)) → IsTable t → IsTable u →
     table_lines t ++ tail ≡ table_lines u ++ xs → (length t.places ≡ length u.places) × (tail ≡ xs)
 table_passed t u tail xs t_good u_good e =
     let alike = tables_alike t u tail xs t_good u_good e in
     (alike.count, places_passed t.places u.places tail xs alike.count alike.places)
 
--- one more price, or the end line
+-- if some prices of a certificate were read, its next line is `end` or the price line of a later place
 pub price_next : (k count : ℕ) (ps qs : List PricedPlace) (xs : List (List ℕ)) → count ≤ 16384 →
     RisesFrom k count ps → RisesFrom k count qs →
     map price_line ps ++ (end_line ∷ []) ≡ map price_line qs ++ xs →
@@ -128,7 +131,7 @@ price_next k count (p ∷ ps) (q ∷ qs) xs few p_rises q_rises e =
     let P : ℕ → Type 0 = λ n. RisesFrom (n + 1) count ps in
     price_next (q.place + 1) count ps qs xs few (subst P same.0 p_rises.3) q_rises.3 (ap (drop 1) e)
 
--- one more place of the closed set, or the end line
+-- if some places of a certificate's closed set were read, its next line is `end` or the line of a later place of the set
 pub closed_next : (k count : ℕ) (ps qs : List ℕ) (xs : List (List ℕ)) → count ≤ 16384 →
     ClimbsFrom k count ps → ClimbsFrom k count qs →
     map closed_line ps ++ (end_line ∷ []) ≡ map closed_line qs ++ xs →

@@ -1,3 +1,4 @@
+-- A certificate has at most one result of the check.
 use Rattle.std.proofs.Common.{◌≡◌, ℕ, ◌<◌, List, Option, Bool, Result, Ok, Err, arith, refl, sym, ap, ◌∙◌, inl, inr}
 use Rattle.std.proofs.lemmas.Bool.{cases_lt, cases_eq}
 use Rattle.hls_check_tables.specs.declared.cert_fault.CertFault.{CertFault}
@@ -13,7 +14,7 @@ use Rattle.hls_check.specs.CheckResults.{CutCheckResult, NoneCheckResult, CheckR
 use Rattle.hls_check.proofs.PlanLists.{ends_from_plan, steps_from_plan}
 use Rattle.hls_check.proofs.GoodAnswers.{cut_fault, none_fault}
 
--- of two first elements neither is before the other
+-- if neither of two numbers is below the other, they are equal
 one_first : (p q : ℕ) → (p < q → ⊥) → (q < p → ⊥) → p ≡ q
 one_first p q before behind =
     elim (cases_lt p q) [
@@ -26,25 +27,28 @@ one_unsorted : (t : Table) (p q : ℕ) → IsFirstUnsorted t p → IsFirstUnsort
 one_unsorted t p q one other =
     one_first p q (λ below. one.unsorted (other.sorted_before p below)) (λ above. other.unsorted (one.sorted_before q above))
 
+-- a sorted table has no first place out of order
 unsorted_sorted : (t : Table) (p : ℕ) → IsFirstUnsorted t p → IsSorted t → ⊥
 unsorted_sorted t p first sorted = first.unsorted (sorted p first.in_range)
 
--- the first bad pair of a plan is unique
+-- the position of the first bad pair of a plan is unique
 one_at : (t : Table) (plan : List ℕ) (p q i j : ℕ) (one : IsFirstBadPair t plan p q) (other : IsFirstBadPair t plan i j) →
     one.at ≡ other.at
 one_at t plan p q i j one other =
     one_first one.at other.at (λ below. one.bad (rw (← one.is_from, ← one.is_to) (other.good_before one.at below)))
     (λ above. other.bad (rw (← other.is_from, ← other.is_to) (one.good_before other.at above)))
 
+-- a plan over a sorted table has no bad pair
 bad_pair_plan : (t : Table) → IsTable t → (plan : List ℕ) (p q : ℕ) → IsSorted t → IsFirstBadPair t plan p q → IsPlan t plan → ⊥
 bad_pair_plan t ok plan p q sorted first is_plan =
     first.bad (rw (← first.is_from, ← first.is_to) (steps_from_plan t ok sorted plan is_plan first.at first.in_plan))
 
--- the first broken step is unique
+-- the place from which the first broken step starts is unique
 one_row : (Holds : ℕ → ℕ → Type 0) (p q i j : ℕ) → IsFirstBrokenStep Holds p q → IsFirstBrokenStep Holds i j → p ≡ i
 one_row Holds p q i j one other =
     one_first p i (λ below. one.in_row.broken (other.rows p q below)) (λ above. other.in_row.broken (one.rows i j above))
 
+-- the place at which the first broken step ends is unique
 one_place : (Holds : ℕ → ℕ → Type 0) (p q j : ℕ) → IsFirstBrokenStep Holds p q → IsFirstBrokenStep Holds p j → q ≡ j
 one_place Holds p q j one other =
     one_first q j (λ below. one.in_row.broken (other.in_row.before q below)) (λ above. other.in_row.broken (one.in_row.before j above))
@@ -137,7 +141,7 @@ none_faults t closed one (PlanStep i j) a b = absurd b
 none_faults t closed one PlanCost a b = absurd b
 none_faults t closed one Memory a b = absurd b
 
--- two results for one certificate are the same
+-- two results for one claim over a table are the same
 one_over : (t : Table) → IsTable t → (shown : ClaimData) (one other : Result Verdict CertFault) →
     CheckResultOver t shown one → CheckResultOver t shown other → one ≡ other
 one_over t ok (CutClaim total plan prices) (Ok (Cut x)) (Ok (Cut y)) a b =
@@ -155,6 +159,7 @@ one_over t ok (NoneClaim closed) (Err x) (Err y) a b = ap (λ (v : CertFault). E
 one_over t ok (NoneClaim closed) (Ok (Cut x)) other a b = absurd a
 one_over t ok (NoneClaim closed) one (Ok (Cut x)) a b = absurd b
 
+-- two results for one certificate are the same
 pub one_answer : (c : CertificateData) (one other : Result Verdict CertFault) → IsCertificate c →
     IsCheckResult c one → IsCheckResult c other → one ≡ other
 one_answer c one other certificate a b = one_over c.table certificate.table c.shown one other a b

@@ -14,17 +14,20 @@ use Rattle.hls_check.specs.Stages.{certificate_with}
 use Rattle.hls_check.proofs.Spellings.{words_same, number_same, other_first, numbers_printable, place_same, RisesFrom, ClimbsFrom, priced_rises, members_climb, priced_line_same}
 use Rattle.hls_check.proofs.Nexts.{tables_alike, places_passed}
 
+-- lists of printable numbers with the same text are the same, if neither is empty
 pub words_all : (ms ns : List ℕ) → ArePrintable ms → ArePrintable ns → 0 < length ms → 0 < length ns →
     numbers_text ms ≡ numbers_text ns → ms ≡ ns
 words_all [] ns ms_small ns_small some others e = absurd (omega arith)
 words_all (m ∷ ms) [] ms_small ns_small some others e = absurd (omega arith)
 words_all (m ∷ ms) (n ∷ ns) ms_small ns_small some others e = words_same m n ms ns ms_small ns_small e
 
+-- a place with spots has numbers
 some_numbers : (place : List Spot) → 0 < length place → 0 < length (place_numbers place)
 unfolding place_numbers
 some_numbers [] some = absurd (omega arith)
 some_numbers (s ∷ place) some = omega arith
 
+-- places of the same number of renditions with the same line are the same
 place_line_same : (renditions : ℕ) (p q : List Spot) → 1 ≤ renditions → IsPlaceOf renditions p → IsPlaceOf renditions q →
     place_line p ≡ place_line q → p ≡ q
 place_line_same renditions p q some p_good q_good e =
@@ -34,6 +37,7 @@ place_line_same renditions p q some p_good q_good e =
     (words_all (place_numbers p) (place_numbers q) (numbers_printable p p_good.spots) (numbers_printable q q_good.spots)
     (some_numbers p (omega arith)) (some_numbers q (omega arith)) e)
 
+-- equally long lists of places with the same lines, each followed by more, are the same
 places_same : (renditions : ℕ) (ps qs : List (List Spot)) (tail xs : List (List ℕ)) → 1 ≤ renditions →
     length ps ≡ length qs → All (IsPlaceOf renditions) ps → All (IsPlaceOf renditions) qs →
     map place_line ps ++ tail ≡ map place_line qs ++ xs → ps ≡ qs
@@ -47,13 +51,16 @@ places_same renditions (p ∷ ps) (q ∷ qs) tail xs some len p_good q_good e =
     (places_same renditions ps qs tail xs some (omega arith) (All-tail (IsPlaceOf renditions) p ps p_good)
     (All-tail (IsPlaceOf renditions) q qs q_good) (ap (drop 1) e))
 
+-- goals of equal parts are equal
 goal_made : (t p : ℕ) (r : CostRule) (t' p' : ℕ) (r' : CostRule) → t ≡ t' → p ≡ p' → r ≡ r' → goal_of t p r ≡ goal_of t' p' r'
 goal_made t p r t' p' r' a b c = rw (a, b, c) refl
 
+-- tables of equal parts are equal
 table_made : (g : Goal) (r : ℕ) (ps : List (List Spot)) (g' : Goal) (r' : ℕ) (ps' : List (List Spot)) →
     g ≡ g' → r ≡ r' → ps ≡ ps' → table_of g r ps ≡ table_of g' r' ps'
 table_made g r ps g' r' ps' a b c = rw (a, b, c) refl
 
+-- two tables with the same lines, each followed by more, are the same, and so is what follows them
 table_same : (t u : Table) (tail xs : List (List ℕ)) → IsTable t → IsTable u →
     table_lines t ++ tail ≡ table_lines u ++ xs → (t ≡ u) × (tail ≡ xs)
 table_same t u tail xs t_good u_good e =
@@ -73,6 +80,7 @@ table_same t u tail xs t_good u_good e =
       places_passed t.places u.places tail xs alike.count alike.places,
     )
 
+-- priced places of equal parts are equal
 priced_made : (a b a' b' : ℕ) → a ≡ a' → b ≡ b' → priced_place a b ≡ priced_place a' b'
 priced_made a b a' b' p q = rw (p, q) refl
 
@@ -93,15 +101,17 @@ ended_same {A} line IsGood no_end told (p ∷ ps) (q ∷ qs) xs p_good q_good e 
     ended_same line IsGood no_end told ps qs xs (All-tail IsGood p ps p_good) (All-tail IsGood q qs q_good) (ap (drop 1) e) in
     (ap₂ (λ (y : A) (ys : List A). y ∷ ys) same rest.0, rest.1)
 
--- the same prices are written, and no lines follow
+-- the place of a priced place is below `count`, and its price below 2^53
 abbrev IsPricedIn : ℕ → PricedPlace → Type 0
 IsPricedIn count p = (p.place < count) × (p.price < 2 ^ 53)
 
+-- priced places that increase below `count` are each in range
 rises_within : (k count : ℕ) (ps : List PricedPlace) → RisesFrom k count ps → All (IsPricedIn count) ps
 rises_within k count [] rises = All-nil (IsPricedIn count)
 rises_within k count (p ∷ ps) rises =
     All-cons (IsPricedIn count) p ps (rises.1, rises.2) (rises_within (p.place + 1) count ps rises.3)
 
+-- price lines before the line `end` determine the prices, and no lines follow
 price_lines_same : (k count : ℕ) (ps qs : List PricedPlace) (xs : List (List ℕ)) → count ≤ 16384 →
     RisesFrom k count ps → RisesFrom k count qs →
     map price_line ps ++ (end_line ∷ []) ≡ (map price_line qs ++ (end_line ∷ [])) ++ xs → (ps ≡ qs) × (xs ≡ [])
@@ -114,10 +124,12 @@ price_lines_same k count ps qs xs few p_rises q_rises e =
     priced_made p.place p.price q.place q.price same.0 same.1)
     ps qs xs (rises_within k count ps p_rises) (rises_within k count qs q_rises) e
 
+-- places that increase below `count` are each below `count`
 climbs_within : (k count : ℕ) (ps : List ℕ) → ClimbsFrom k count ps → All (λ p. p < count) ps
 climbs_within k count [] climbs = All-nil (λ p. p < count)
 climbs_within k count (p ∷ ps) climbs = All-cons (λ p. p < count) p ps climbs.1 (climbs_within (p + 1) count ps climbs.2)
 
+-- lines of the closed set before the line `end` determine its places, and no lines follow
 closed_lines_same : (k count : ℕ) (ps qs : List ℕ) (xs : List (List ℕ)) → count ≤ 16384 →
     ClimbsFrom k count ps → ClimbsFrom k count qs →
     map closed_line ps ++ (end_line ∷ []) ≡ (map closed_line qs ++ (end_line ∷ [])) ++ xs → (ps ≡ qs) × (xs ≡ [])
@@ -126,7 +138,7 @@ closed_lines_same k count ps qs xs few p_climbs q_climbs e =
     (λ p q p_in q_in is. number_same (codes "closed ") p q (omega arith) (omega arith) is)
     ps qs xs (climbs_within k count ps p_climbs) (climbs_within k count qs q_climbs) e
 
--- prices are determined by the places that have one
+-- the first place that has a price isn't before the place where the list of prices begins
 priced_above : (j : ℕ) (prices : List (Option ℕ)) (r : PricedPlace) (rs : List PricedPlace) → priced_places_from j prices ≡ r ∷ rs → j ≤ r.place
 unfolding priced_places_from
 priced_above j [] r rs e = absurd cc
@@ -138,6 +150,7 @@ priced_above j (Some v ∷ prices) r rs e =
     let place : j ≡ r.place = ap (λ (p : PricedPlace). p.place) first in
     omega arith
 
+-- equally long lists of prices with the same priced places are the same
 prices_same : (k : ℕ) (ps qs : List (Option ℕ)) → length ps ≡ length qs → priced_places_from k ps ≡ priced_places_from k qs → ps ≡ qs
 unfolding priced_places_from
 prices_same k [] [] len e = refl
@@ -157,6 +170,7 @@ prices_same k (Some v ∷ ps) (Some w ∷ qs) len e =
     let rest : priced_places_from (k + 1) ps ≡ priced_places_from (k + 1) qs = cc in
     ap₂ (λ (y : ℕ) (ys : List (Option ℕ)). Some y ∷ ys) price (prices_same (k + 1) ps qs (omega arith) rest)
 
+-- the first place of a set isn't before the place where the list of its flags begins
 members_above : (j : ℕ) (closed : List Bool) (r : ℕ) (rs : List ℕ) → closed_places_from j closed ≡ r ∷ rs → j ≤ r
 unfolding closed_places_from
 members_above j [] r rs e = absurd cc
@@ -167,6 +181,7 @@ members_above j (true ∷ closed) r rs e =
     let first : j ≡ r = cc in
     omega arith
 
+-- equally long lists of flags with the same places are the same
 closed_same : (k : ℕ) (ps qs : List Bool) → length ps ≡ length qs → closed_places_from k ps ≡ closed_places_from k qs → ps ≡ qs
 unfolding closed_places_from
 closed_same k [] [] len e = refl
@@ -184,17 +199,19 @@ closed_same k (true ∷ ps) (true ∷ qs) len e =
     let rest : closed_places_from (k + 1) ps ≡ closed_places_from (k + 1) qs = cc in
     ap (λ (ys : List Bool). true ∷ ys) (closed_same (k + 1) ps qs (omega arith) rest)
 
+-- places below a count of at most 16384 are printable numbers
 pub below_small : (count : ℕ) (ps : List ℕ) → count ≤ 16384 → All (λ p. p < count) ps → ArePrintable ps
 below_small count [] few below = All-nil IsSmall
 below_small count (p ∷ ps) few below =
     let first : p < count = All-head (λ (q : ℕ). q < count) p ps below in
     All-cons IsSmall p ps (omega arith) (below_small count ps few (All-tail (λ (q : ℕ). q < count) p ps below))
 
+-- claims of a cut with equal parts are equal
 cut_made : (a : ℕ) (b : List ℕ) (c : List (Option ℕ)) (a' : ℕ) (b' : List ℕ) (c' : List (Option ℕ)) →
     a ≡ a' → b ≡ b' → c ≡ c' → CutClaim a b c ≡ CutClaim a' b' c'
 cut_made a b c a' b' c' p q r = rw (p, q, r) refl
 
--- what is claimed for the same number of places
+-- if the lines of one claim begin with those of another for as many places, the claims are equal, and no lines follow
 pub shown_same : (count : ℕ) (s z : ClaimData) (xs : List (List ℕ)) → count ≤ 16384 → IsForm count s → IsForm count z →
     claim_lines s ≡ claim_lines z ++ xs → (s ≡ z) × (xs ≡ [])
 unfolding claim_lines
@@ -224,6 +241,7 @@ shown_same count (NoneClaim closed) (NoneClaim closed') xs few s_good z_good e =
     (members_climb 0 count closed (omega arith)) (members_climb 0 count closed' (omega arith)) (ap (drop 1) e) in
     (ap NoneClaim (closed_same 0 closed closed' (omega arith) same.0), same.1)
 
+-- if the lines of one certificate begin with those of another, the certificates are equal, and no lines follow
 pub lines_same : (c d : CertificateData) (xs : List (List ℕ)) → IsCertificate c → IsCertificate d → lines c ≡ lines d ++ xs →
     (c ≡ d) × (xs ≡ [])
 unfolding lines

@@ -9,6 +9,7 @@ use Rattle.hls_text.specs.Numbers.{spaced_numbers, numbers_text, ArePrintable, S
 use Rattle.hls_check.proofs.Cited.{same_number, IsSmall, spaced_same, no_digit}
 use Rattle.hls_check.specs.Text.{place_numbers, PricedPlace, price_line, priced_places_from, closed_places_from}
 
+-- lists of printable numbers with the same text are the same, if neither is empty
 pub words_same : (m n : ℕ) (ms ns : List ℕ) → ArePrintable (m ∷ ms) → ArePrintable (n ∷ ns) →
     numbers_text (m ∷ ms) ≡ numbers_text (n ∷ ns) → m ∷ ms ≡ n ∷ ns
 unfolding numbers_text
@@ -22,9 +23,11 @@ words_same m n ms ns ms_small ns_small e =
     ap₂ (λ (x : ℕ) (xs : List ℕ). x ∷ xs) same.0
     (spaced_same ms ns (All-tail IsSmall m ms ms_small) (All-tail IsSmall n ns ns_small) same.1)
 
+-- a number below 2^53 is printable
 pub one_small : (n : ℕ) → n < 2 ^ 53 → ArePrintable (n ∷ [])
 one_small n small = All-cons IsSmall n [] small (All-nil IsSmall)
 
+-- lines of one word and a number below 2^53 are the same only if the numbers are
 pub number_same : (word : List ℕ) (m n : ℕ) → m < 2 ^ 53 → n < 2 ^ 53 →
     word ++ numbers_text (m ∷ []) ≡ word ++ numbers_text (n ∷ []) → m ≡ n
 number_same word m n m_small n_small e =
@@ -33,10 +36,11 @@ number_same word m n m_small n_small e =
     (append_cancel_left word (numbers_text (m ∷ [])) (numbers_text (n ∷ [])) e) in
     cc
 
+-- texts with different first characters differ
 pub other_first : (xs ys : List ℕ) → (get_or xs 0 0 ≡ get_or ys 0 0 → ⊥) → xs ≡ ys → ⊥
 other_first xs ys differ e = differ (ap (λ (zs : List ℕ). get_or zs 0 0) e)
 
--- the numbers of a place
+-- the numbers of a place are printable
 pub numbers_printable : (place : List Spot) → All IsSpotInRange place → ArePrintable (place_numbers place)
 unfolding place_numbers
 numbers_printable [] spots = All-nil IsSmall
@@ -49,14 +53,16 @@ numbers_printable (s ∷ place) spots =
     (All-cons IsSmall s.run_out (place_numbers place) small.run_out_small
     (numbers_printable place (All-tail IsSpotInRange s place spots))))))
 
--- the numbers of one spot and those after it
+-- the spot of these five numbers
 abbrev five : ℕ → ℕ → ℕ → ℕ → ℕ → Spot
 five a b c d e = record { fragment = a; prev_end = b; start = c; run_in = d; run_out = e }
 
+-- spots of equal numbers are equal
 spots_same : (a b c d e a' b' c' d' e' : ℕ) → a ≡ a' → b ≡ b' → c ≡ c' → d ≡ d' → e ≡ e' →
     five a b c d e ≡ five a' b' c' d' e'
 spots_same a b c d e a' b' c' d' e' p q r s t = rw (p, q, r, s, t) refl
 
+-- places with as many spots and the same numbers are the same
 pub place_same : (ps qs : List Spot) → length ps ≡ length qs → place_numbers ps ≡ place_numbers qs → ps ≡ qs
 unfolding place_numbers
 place_same [] [] len e = refl
@@ -73,16 +79,18 @@ place_same (p ∷ ps) (q ∷ qs) len e =
     (spots_same p.fragment p.prev_end p.start p.run_in p.run_out q.fragment q.prev_end q.start q.run_in q.run_out a b c d f)
     (place_same ps qs (omega arith) rest)
 
--- places with a price, increasing from place k and less than a count
+-- priced places in range whose numbers increase, are at least k and are below `count`
 abbrev pub RisesFrom : ℕ → ℕ → List PricedPlace → Type 0
 RisesFrom k count [] = Unit {0}
 RisesFrom k count (p ∷ ps) =
     (k ≤ p.place) × (p.place < count) × (p.price < 2 ^ 53) × RisesFrom (p.place + 1) count ps
 
+-- priced places that increase from k on also increase from any earlier number on
 rises_later : (j k count : ℕ) (ps : List PricedPlace) → j ≤ k → RisesFrom k count ps → RisesFrom j count ps
 rises_later j k count [] h rises = tt
 rises_later j k count (p ∷ ps) h rises = (omega arith, rises.1, rises.2, rises.3)
 
+-- the priced places of a list of prices increase from the place where the list begins
 pub priced_rises : (k count : ℕ) (prices : List (Option ℕ)) → k + length prices ≤ count → All IsPriceInRange prices →
     RisesFrom k count (priced_places_from k prices)
 unfolding priced_places_from
@@ -98,15 +106,17 @@ priced_rises k count (Some v ∷ prices) h small =
       priced_rises (k + 1) count prices (omega arith) (All-tail IsPriceInRange (Some v) prices small),
     )
 
--- the same for the places of a set
+-- places whose numbers increase, are at least k and are below `count`
 abbrev pub ClimbsFrom : ℕ → ℕ → List ℕ → Type 0
 ClimbsFrom k count [] = Unit {0}
 ClimbsFrom k count (p ∷ ps) = (k ≤ p) × (p < count) × ClimbsFrom (p + 1) count ps
 
+-- places that increase from k on also increase from any earlier number on
 climbs_later : (j k count : ℕ) (ps : List ℕ) → j ≤ k → ClimbsFrom k count ps → ClimbsFrom j count ps
 climbs_later j k count [] h climbs = tt
 climbs_later j k count (p ∷ ps) h climbs = (omega arith, climbs.1, climbs.2)
 
+-- the places of a set increase from the place where the list of its flags begins
 pub members_climb : (k count : ℕ) (closed : List Bool) → k + length closed ≤ count →
     ClimbsFrom k count (closed_places_from k closed)
 unfolding closed_places_from
@@ -115,6 +125,7 @@ members_climb k count (false ∷ closed) h =
     climbs_later k (k + 1) count (closed_places_from (k + 1) closed) (omega arith) (members_climb (k + 1) count closed (omega arith))
 members_climb k count (true ∷ closed) h = (omega arith, omega arith, members_climb (k + 1) count closed (omega arith))
 
+-- price lines of numbers below 2^53 are the same only if the places and the prices are
 pub priced_line_same : (p q : PricedPlace) → p.place < 2 ^ 53 → p.price < 2 ^ 53 → q.place < 2 ^ 53 → q.price < 2 ^ 53 →
     price_line p ≡ price_line q → (p.place ≡ q.place) × (p.price ≡ q.price)
 priced_line_same p q a b c d e =

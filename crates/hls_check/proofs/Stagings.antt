@@ -11,7 +11,7 @@ use Rattle.hls_check.specs.Stages.{ReadingStage, AtHeader, AtRule, AtTarget, AtP
 use Rattle.hls_check.proofs.Spellings.{other_first, priced_rises, members_climb}
 use Rattle.hls_check.proofs.Nexts.{Next, other_version, behind_rule, rules_same, rule_first, place_next, counts_same, table_passed, price_next, closed_next}
 
--- a further line must follow
+-- at this stage a further line must follow
 abbrev pub IsOpen : ReadingStage → Type 0
 IsOpen AtHeader = Unit {0}
 IsOpen AtRule = Unit {0}
@@ -26,20 +26,20 @@ IsOpen (AtPrice table total plan prices) = Unit {0}
 IsOpen (AtClosed table closed) = Unit {0}
 IsOpen (AtEnd certificate) = ⊥
 
--- the first line
+-- the first line of a certificate is that of version 1 or of version 2
 at_header : (rule : CostRule) (more xs : List (List ℕ)) → rule_lines rule ++ more ≡ xs →
     Next (λ line. (line ≡ header_line) ⊎ (line ≡ ruled_header_line)) xs
 at_header Deviation more xs e = subst (Next (λ line. (line ≡ header_line) ⊎ (line ≡ ruled_header_line))) e (inl refl)
 at_header (Charged charge) more xs e = subst (Next (λ line. (line ≡ header_line) ⊎ (line ≡ ruled_header_line))) e (inr refl)
 
--- after the first line of version 2
+-- after the first line of version 2 the line of its charge follows
 at_rule : (rule : CostRule) (more xs : List (List ℕ)) → charge_of rule ≤ 3600000000 → rule_lines rule ++ more ≡ ruled_header_line ∷ xs →
     Next (IsNumberLine charge_line IsCharge) xs
 at_rule Deviation more xs small e = absurd (other_version (ap (λ (ls : List (List ℕ)). get_or ls 0 []) e))
 at_rule (Charged charge) more xs small e =
     subst (Next (IsNumberLine charge_line IsCharge)) (ap (drop 1) e) (record { number = charge; good = (omega arith, small); is = refl })
 
--- after a rule and some more lines
+-- if a certificate's lines begin with a rule and some more lines, its lines after the rule begin with those
 past_rule : (c : CertificateData) → IsCertificate c → (rule : CostRule) → charge_of rule ≤ 3600000000 → (front xs : List (List ℕ)) →
     lines c ≡ (rule_lines rule ++ front) ++ xs → behind_rule c.table (claim_lines c.shown) ≡ front ++ xs
 unfolding lines
@@ -47,6 +47,7 @@ past_rule c valid rule small front xs e =
     (rules_same c.table.goal.rule rule (behind_rule c.table (claim_lines c.shown)) (front ++ xs) valid.table.goal.charge small
     (sym (rule_first c.table (claim_lines c.shown)) ∙ e ∙ append_assoc (rule_lines rule) front xs)).1
 
+-- while places remain, a place line follows
 at_place : (h : CertificateHead) (places : List (List Spot)) → AreFirstPlaces h places → (c : CertificateData) → IsCertificate c →
     (xs : List (List ℕ)) → lines c ≡ (lines_of_head h ++ map place_line places) ++ xs → Next (IsPlaceLine h.renditions) xs
 at_place h places good c valid xs e =
@@ -64,7 +65,7 @@ at_place h places good c valid xs e =
     let P : ℕ → Type 0 = λ r. All (IsPlaceOf r) c.table.places in
     place_next h.renditions c.table.places places (claim_lines c.shown) xs (omega arith) (subst P told.0 valid.table.places) told.2
 
--- a claim's first line
+-- a claim begins with `none` or with a cut's cost
 at_claim : (count : ℕ) (shown : ClaimData) → IsForm count shown → (xs : List (List ℕ)) → claim_lines shown ≡ xs →
     Next (λ line. (line ≡ none_line) ⊎ IsNumberLine cut_line (λ n. n < 2 ^ 53) line) xs
 unfolding claim_lines
@@ -74,7 +75,7 @@ at_claim count (CutClaim total plan prices) form xs e =
 at_claim count (NoneClaim closed) form xs e =
     subst (Next (λ line. (line ≡ none_line) ⊎ IsNumberLine cut_line (λ n. n < 2 ^ 53) line)) e (inl refl)
 
--- after the line of a cut's cost
+-- after a cut's cost a plan line follows
 at_plan : (count : ℕ) (shown : ClaimData) (total : ℕ) → IsForm count shown → (xs : List (List ℕ)) →
     claim_lines shown ≡ cut_line total ∷ xs → Next (IsPlanLine count) xs
 unfolding claim_lines
@@ -84,7 +85,7 @@ at_plan count (CutClaim cost plan prices) total form xs e =
 at_plan count (NoneClaim closed) total form xs e =
     absurd (other_first none_line (cut_line total) (λ z. omega (arith, z)) (ap (λ (ls : List (List ℕ)). get_or ls 0 []) e))
 
--- after the plan
+-- after some prices a later price or `end` follows
 at_price : (count : ℕ) (shown : ClaimData) (total : ℕ) (plan : List ℕ) (prices : List (Option ℕ)) → count ≤ 16384 →
     IsForm count shown → AreFirstPrices count prices → (xs : List (List ℕ)) →
     claim_lines shown ≡ cut_line total ∷ plan_line plan ∷ (map price_line (priced_places_from 0 prices) ++ xs) →
@@ -99,7 +100,7 @@ at_price count (CutClaim cost others all) total plan prices few form good xs e =
 at_price count (NoneClaim closed) total plan prices few form good xs e =
     absurd (other_first none_line (cut_line total) (λ z. omega (arith, z)) (ap (λ (ls : List (List ℕ)). get_or ls 0 []) e))
 
--- after the line `none`
+-- after some places of the closed set a later place or `end` follows
 at_closed : (count : ℕ) (shown : ClaimData) (closed : List Bool) → count ≤ 16384 → IsForm count shown → AreFirstClosed count closed →
     (xs : List (List ℕ)) → claim_lines shown ≡ none_line ∷ (map closed_line (closed_places_from 0 closed) ++ xs) →
     Next (λ line. (line ≡ end_line) ⊎ IsClosedLine (place_after_closed 0 (closed_places_from 0 closed)) count line) xs
@@ -112,7 +113,7 @@ at_closed count (NoneClaim all) closed few form good xs e =
     closed_next 0 count (closed_places_from 0 all) (closed_places_from 0 closed) xs few
     (members_climb 0 count all (omega arith)) (members_climb 0 count closed (omega arith)) (ap (drop 1) e)
 
--- after a whole table
+-- a certificate whose lines begin with those of a table has as many places, and its claim's lines follow the table's
 behind_table : (t : Table) → IsTable t → (c : CertificateData) → IsCertificate c → (front xs : List (List ℕ)) →
     lines c ≡ (table_lines t ++ front) ++ xs →
     (length c.table.places ≡ length t.places) × (claim_lines c.shown ≡ front ++ xs)
@@ -120,6 +121,7 @@ unfolding lines
 behind_table t good c valid front xs e =
     table_passed c.table t (claim_lines c.shown) (front ++ xs) valid.table good (e ∙ append_assoc (table_lines t) front xs)
 
+-- in every certificate whose lines begin with those that were read, the next line is one that may come next
 pub stage_next : (s : ReadingStage) → IsOpen s → IsStage s → (c : CertificateData) → IsCertificate c → (xs : List (List ℕ)) →
     lines c ≡ lines_before s ++ xs → Next (IsNext s) xs
 unfolding lines

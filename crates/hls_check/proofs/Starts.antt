@@ -15,9 +15,11 @@ use Rattle.hls_check.specs.Stages.{ReadingStage, AtHeader, AtRule, AtTarget, AtP
 use Rattle.hls_check.proofs.Nexts.{behind_rule, rule_first}
 use Rattle.hls_check.proofs.Stagings.{IsOpen}
 
+-- a place of zeros in each rendition
 abbrev blank : ℕ → List Spot
 blank renditions = replicate renditions no_spot
 
+-- a blank place is a place of its number of renditions
 blank_good : (renditions : ℕ) → IsPlaceOf renditions (blank renditions)
 blank_good renditions = record {
   count = length-replicate renditions no_spot;
@@ -31,6 +33,7 @@ blank_good renditions = record {
       });
 }
 
+-- the table of a header and some places, with blank places up to the announced number
 abbrev completed : CertificateHead → List (List Spot) → Table
 completed h places = record {
   goal = h.goal;
@@ -38,11 +41,13 @@ completed h places = record {
   places = places ++ replicate (h.count - length places) (blank h.renditions);
 }
 
+-- the completed places are as many as the header announces
 completed_count : (h : CertificateHead) (places : List (List Spot)) → length places ≤ h.count →
     length (places ++ replicate (h.count - length places) (blank h.renditions)) ≡ h.count
 completed_count h places room =
     simp (length-append, length-replicate) (omega arith)
 
+-- the completed table is in its ranges
 completed_good : (h : CertificateHead) (places : List (List Spot)) → IsHead h → length places ≤ h.count →
     All (IsPlaceOf h.renditions) places → IsTable (completed h places)
 completed_good h places good room each =
@@ -55,41 +60,47 @@ completed_good h places good room each =
           (All-replicate (IsPlaceOf h.renditions) (h.count - length places) (blank h.renditions) (blank_good h.renditions));
     }
 
--- a table without a cut
+-- the certificate of a table with the claim that there is no cut, and an empty closed set
 abbrev uncut : Table → CertificateData
 uncut t = record { table = t; shown = NoneClaim (replicate (length t.places) false) }
 
+-- the certificate of a table without a cut has the form of a certificate
 uncut_good : (t : Table) → IsTable t → IsCertificate (uncut t)
 uncut_good t good = record { table = good; form = length-replicate (length t.places) false }
 
+-- a header of this goal and two places
 abbrev head_of : Goal → ℕ → CertificateHead
 head_of goal renditions = record { goal = goal; renditions = renditions; count = 2 }
 
--- a certificate of two blank places
+-- a table of two blank places
 abbrev first_table : Goal → ℕ → Table
 first_table goal renditions = completed (head_of goal renditions) []
 
+-- the certificate of two blank places without a cut
 abbrev first_of : Goal → ℕ → CertificateData
 first_of goal renditions = uncut (first_table goal renditions)
 
+-- the certificate of two blank places has the form of one, if its goal and its number of renditions are in range
 first_good : (goal : Goal) (renditions : ℕ) → IsGoal goal → IsRenditionCount renditions → IsCertificate (first_of goal renditions)
 first_good goal renditions g r =
     uncut_good (first_table goal renditions)
     (completed_good (head_of goal renditions) [] (record { goal = g; renditions = r; count = (omega arith, omega arith) })
     (omega arith) (All-nil (IsPlaceOf renditions)))
 
--- its lines after the rule
+-- the lines of the certificate of two blank places after those of its rule
 abbrev first_rest : Goal → ℕ → List (List ℕ)
 first_rest goal renditions = behind_rule (first_table goal renditions) (claim_lines (first_of goal renditions).shown)
 
+-- the lines of the certificate of two blank places are those of its rule, then the others
 first_lines : (goal : Goal) (renditions : ℕ) → lines (first_of goal renditions) ≡ rule_lines goal.rule ++ first_rest goal renditions
 unfolding lines
 first_lines goal renditions = rule_first (first_table goal renditions) (claim_lines (first_of goal renditions).shown)
 
--- what was read of the rule, the target and the goal, completed
+-- with a rule in range, a target of 1 s and a preferred length of 1 microsecond are a goal
 rule_goal : (rule : CostRule) → IsRule rule → IsGoal (goal_of 1 1 rule)
 rule_goal rule good = record { target = (omega arith, omega arith); preferred = (omega arith, omega arith); charge = good }
 
+-- the lines of a rule in range begin some certificate
 rule_begins : (rule : CostRule) → IsRule rule → BeginsCertificate (rule_lines rule)
 rule_begins rule good = record {
   certificate = first_of (goal_of 1 1 rule) 1;
@@ -98,6 +109,7 @@ rule_begins rule good = record {
   is = first_lines (goal_of 1 1 rule) 1;
 }
 
+-- the lines of a rule and a target in range begin some certificate
 target_begins : (rule : CostRule) (target : ℕ) → IsRule rule → IsTarget target → BeginsCertificate (rule_lines rule ++ (target_line target ∷ []))
 target_begins rule target good t =
     let goal : Goal = goal_of target 1 rule in
@@ -108,6 +120,7 @@ target_begins rule target good t =
       is = first_lines goal 1 ∙ sym (append_assoc (rule_lines rule) (target_line target ∷ []) (drop 1 (first_rest goal 1)));
     }
 
+-- the lines of a goal in range begin some certificate
 goal_begins : (goal : Goal) → IsGoal goal → BeginsCertificate (rule_lines goal.rule ++ (target_line goal.target ∷ preferred_line goal.preferred ∷ []))
 goal_begins goal good = record {
   certificate = first_of goal 1;
@@ -117,6 +130,7 @@ goal_begins goal good = record {
       ∙ sym (append_assoc (rule_lines goal.rule) (target_line goal.target ∷ preferred_line goal.preferred ∷ []) (drop 2 (first_rest goal 1)));
 }
 
+-- the lines of a goal and a number of renditions in range begin some certificate
 renditions_begin : (goal : Goal) (renditions : ℕ) → IsGoal goal → IsRenditionCount renditions →
     BeginsCertificate (rule_lines goal.rule ++ (target_line goal.target ∷ preferred_line goal.preferred ∷ renditions_line renditions ∷ []))
 renditions_begin goal renditions good r = record {
@@ -128,6 +142,7 @@ renditions_begin goal renditions good r = record {
       (drop 3 (first_rest goal renditions)));
 }
 
+-- a header and some of its places begin some certificate
 places_begin : (h : CertificateHead) (places : List (List Spot)) → AreFirstPlaces h places → BeginsCertificate (lines_of_head h ++ map place_line places)
 unfolding lines table_lines
 places_begin h places good =
@@ -147,6 +162,7 @@ places_begin h places good =
           ∙ sym (append_assoc (lines_of_head h) (map place_line places) (blanks ++ shown));
     }
 
+-- places without a price at the end of a list of prices add no price line
 pub unpriced : (k : ℕ) (prices : List (Option ℕ)) (n : ℕ) → priced_places_from k (prices ++ replicate n None) ≡ priced_places_from k prices
 unfolding priced_places_from
 unpriced k [] zero = refl
@@ -154,6 +170,7 @@ unpriced k [] (suc n) = unpriced (k + 1) [] n
 unpriced k (None ∷ prices) n = unpriced (k + 1) prices n
 unpriced k (Some v ∷ prices) n = ap (λ (ps : List PricedPlace). record { place = k; price = v } ∷ ps) (unpriced (k + 1) prices n)
 
+-- places outside the set at the end of a list of flags add no line
 pub left_out : (k : ℕ) (closed : List Bool) (n : ℕ) → closed_places_from k (closed ++ replicate n false) ≡ closed_places_from k closed
 unfolding closed_places_from
 left_out k [] zero = refl
@@ -161,11 +178,12 @@ left_out k [] (suc n) = left_out (k + 1) [] n
 left_out k (false ∷ closed) n = left_out (k + 1) closed n
 left_out k (true ∷ closed) n = ap (λ (ps : List ℕ). k ∷ ps) (left_out (k + 1) closed n)
 
--- a table with prices, or with a set, that are completed
+-- the certificate of a cut with the prices that were read; the other places have none
 abbrev priced_out : Table → ℕ → List ℕ → List (Option ℕ) → CertificateData
 priced_out t total plan prices =
     record { table = t; shown = CutClaim total plan (prices ++ replicate (length t.places - length prices) None) }
 
+-- the certificate of a cut with the prices that were read has the form of one, if its plan and its prices are in range
 priced_good : (t : Table) (total : ℕ) (plan : List ℕ) (prices : List (Option ℕ)) → IsTable t →
     IsPlanForm (length t.places) total plan → length prices ≤ length t.places → All IsPriceInRange prices →
     IsCertificate (priced_out t total plan prices)
@@ -181,6 +199,7 @@ priced_good t total plan prices table planned within small = record {
   };
 }
 
+-- a table, a cut's cost, a plan and some prices begin some certificate
 price_begins : (t : Table) (total : ℕ) (plan : List ℕ) (prices : List (Option ℕ)) → IsTable t →
     IsPlanForm (length t.places) total plan → AreFirstPrices (length t.places) prices →
     BeginsCertificate (table_lines t ++ (cut_line total ∷ plan_line plan ∷ map price_line (priced_places_from 0 prices)))
@@ -195,6 +214,7 @@ price_begins t total plan prices table planned good = record {
       ∙ sym (append_assoc (table_lines t) (cut_line total ∷ plan_line plan ∷ map price_line (priced_places_from 0 prices)) (end_line ∷ []));
 }
 
+-- a plan of place 0 alone has the form of a plan
 first_place : (t : Table) → IsTable t → (total : ℕ) → total < 2 ^ 53 → IsPlanForm (length t.places) total (0 ∷ [])
 first_place t good total small = record {
   total_small = small;
@@ -202,6 +222,7 @@ first_place t good total small = record {
   in_range = All-cons (λ (p : ℕ). p < length t.places) 0 [] (omega (arith, good.count)) (All-nil (λ (p : ℕ). p < length t.places));
 }
 
+-- a table and a cut's cost begin some certificate
 cost_begins : (t : Table) (total : ℕ) → IsTable t → total < 2 ^ 53 → BeginsCertificate (table_lines t ++ (cut_line total ∷ []))
 unfolding lines claim_lines
 cost_begins t total good small = record {
@@ -211,6 +232,7 @@ cost_begins t total good small = record {
   is = sym (append_assoc (table_lines t) (cut_line total ∷ []) (drop 1 (claim_lines (priced_out t total (0 ∷ []) []).shown)));
 }
 
+-- a table, the line `none` and some places of a closed set begin some certificate
 closed_begins : (t : Table) (closed : List Bool) → IsTable t → AreFirstClosed (length t.places) closed →
     BeginsCertificate (table_lines t ++ (none_line ∷ map closed_line (closed_places_from 0 closed)))
 unfolding lines claim_lines
@@ -226,6 +248,7 @@ closed_begins t closed table good =
           ∙ sym (append_assoc (table_lines t) (none_line ∷ map closed_line (closed_places_from 0 closed)) (end_line ∷ []));
     }
 
+-- the lines that were read before any stage begin some certificate
 pub stage_begins : (s : ReadingStage) → IsOpen s → IsStage s → BeginsCertificate (lines_before s)
 unfolding lines table_lines
 stage_begins AtHeader open_ good = record {

@@ -24,9 +24,11 @@ use Rattle.hls_check.proofs.Stagings.{IsOpen, stage_next}
 use Rattle.hls_check.proofs.Starts.{stage_begins}
 use Rattle.hls_check.proofs.Sames.{lines_same, below_small}
 
+-- a clean word and a number below 2^53 make a clean line: one without a line feed
 clean_number : (word : List ℕ) (n : ℕ) → IsClean word → n < 2 ^ 53 → IsClean (word ++ numbers_text (n ∷ []))
 clean_number word n clean small = clean-append word (numbers_text (n ∷ [])) clean (clean_words (n ∷ []) (one_small n small))
 
+-- the lines of places are clean
 clean_places : (renditions : ℕ) (places : List (List Spot)) → All (IsPlaceOf renditions) places → All IsClean (map place_line places)
 clean_places renditions [] good = All-nil IsClean
 clean_places renditions (p ∷ places) good =
@@ -35,6 +37,7 @@ clean_places renditions (p ∷ places) good =
     (clean_words (place_numbers p) (numbers_printable p first.spots))
     (clean_places renditions places (All-tail (IsPlaceOf renditions) p places good))
 
+-- the price lines of places below a count of at most 16384 are clean
 clean_prices : (k count : ℕ) (ps : List PricedPlace) → count ≤ 16384 → RisesFrom k count ps → All IsClean (map price_line ps)
 clean_prices k count [] few rises = All-nil IsClean
 clean_prices k count (p ∷ ps) few rises =
@@ -45,6 +48,7 @@ clean_prices k count (p ∷ ps) few rises =
     (All-cons IsSmall p.place (p.price ∷ []) (omega arith) (one_small p.price rises.2))))
     (clean_prices (p.place + 1) count ps few rises.3)
 
+-- the lines of a closed set over at most 16384 places are clean
 clean_closed : (k count : ℕ) (ps : List ℕ) → count ≤ 16384 → ClimbsFrom k count ps → All IsClean (map closed_line ps)
 clean_closed k count [] few climbs = All-nil IsClean
 clean_closed k count (p ∷ ps) few climbs =
@@ -53,9 +57,11 @@ clean_closed k count (p ∷ ps) few climbs =
     (clean_number (codes "closed ") p refl (omega arith))
     (clean_closed (p + 1) count ps few climbs.2)
 
+-- the line `end` is clean
 clean_end : All IsClean (end_line ∷ [])
 clean_end = All-cons IsClean end_line [] refl (All-nil IsClean)
 
+-- the lines of a claim over at most 16384 places are clean
 clean_shown : (count : ℕ) (shown : ClaimData) → count ≤ 16384 → IsForm count shown → All IsClean (claim_lines shown)
 unfolding claim_lines
 clean_shown count (CutClaim total plan prices) few form =
@@ -76,12 +82,14 @@ clean_shown count (NoneClaim closed) few form =
     (clean_closed 0 count (closed_places_from 0 closed) few (members_climb 0 count closed (omega arith)))
     clean_end)
 
+-- the lines of a rule in range are clean
 clean_rules : (rule : CostRule) → charge_of rule ≤ 3600000000 → All IsClean (rule_lines rule)
 clean_rules Deviation small = All-cons IsClean header_line [] refl (All-nil IsClean)
 clean_rules (Charged charge) small =
     All-cons IsClean ruled_header_line (charge_line charge ∷ []) refl
     (All-cons IsClean (charge_line charge) [] (clean_number (codes "rule 2 ") charge refl (omega arith)) (All-nil IsClean))
 
+-- the header lines after the rule are clean, if their numbers are in range
 clean_four : (t p r n : ℕ) → t ≤ 3600 → p ≤ 3600000000 → r ≤ 16 → n ≤ 16384 →
     All IsClean (target_line t ∷ preferred_line p ∷ renditions_line r ∷ places_line n ∷ [])
 clean_four t p r n t_small p_small r_small n_small =
@@ -90,6 +98,7 @@ clean_four t p r n t_small p_small r_small n_small =
     (All-cons IsClean (renditions_line r) (places_line n ∷ []) (clean_number (codes "renditions ") r refl (omega arith))
     (All-cons IsClean (places_line n) [] (clean_number (codes "places ") n refl (omega arith)) (All-nil IsClean))))
 
+-- each line of a certificate is clean
 pub clean_lines : (c : CertificateData) → IsCertificate c → All IsClean (lines c)
 unfolding lines table_lines
 clean_lines c good =
@@ -113,12 +122,13 @@ unfolding text
 cut_of_text c bytes good e =
     rw e (lines_of_joined (lines c) (clean_lines c good), tail_of_joined (lines c) (clean_lines c good))
 
--- and conversely
+-- conversely, a text that is cut into a certificate's lines, with nothing after them, is its text
 pub text_of_cut : (c : CertificateData) (bytes : List ℕ) → (cut_text bytes).lines ≡ lines c → (cut_text bytes).tail ≡ [] → bytes ≡ text c
 unfolding text
 text_of_cut c bytes lines_is tail_is =
     joined_lines bytes ∙ ap₂ (λ (ls : List (List ℕ)) (xs : List ℕ). text_of_lines ls ++ xs) lines_is tail_is ∙ append-nil (text_of_lines (lines c))
 
+-- lines that don't begin with a valid line have no valid next line
 no_next : (IsGood : List ℕ → Type 0) (ls : List (List ℕ)) →
     ((line : List ℕ) (after : List (List ℕ)) → ls ≡ line ∷ after → IsGood line → ⊥) → Next IsGood ls → ⊥
 no_next IsGood [] none next = next
@@ -143,7 +153,7 @@ first_wrong s open_ bytes rest lines_read at none = record {
       (stage_next s open_ at.is_stage c good (cut_text rest).lines (sym (cut_of_text c bytes good e).0 ∙ at.lines));
 }
 
--- a reader stops at a line
+-- a wrong line after the lines that a reader has read is the first wrong line of the text
 pub stops : (s : ReadingStage) → IsOpen s → (bytes rest : List ℕ) (lines_read : ℕ) → IsReadUpTo s bytes rest lines_read → (n : ℕ) →
     IsWrongLineAfter (IsNext s) rest lines_read n → IsFirstWrongLine bytes n
 stops s open_ bytes rest lines_read at n refused =
@@ -162,7 +172,7 @@ reading_fault OfLine ToLine OfMemory ToWant line want PriceStart is = absurd is
 reading_fault OfLine ToLine OfMemory ToWant line want (PriceStep p q) is = absurd is
 reading_fault OfLine ToLine OfMemory ToWant line want EndReached is = absurd is
 
--- the same for a reader that allocates
+-- a fault at the line after those that a reader has read is the result of reading the text
 pub stops_building : (s : ReadingStage) → IsOpen s → (bytes rest : List ℕ) (lines_read : ℕ) → IsReadUpTo s bytes rest lines_read → (fault : CertFault) →
     IsWrongLineOrMemory (IsNext s) rest lines_read fault → Builds bytes (Err fault)
 stops_building s open_ bytes rest lines_read at fault refused =
@@ -175,17 +185,19 @@ reads bytes (Ok c) good built = built
 reads bytes (Err fault) good built =
     reading_fault (IsFirstWrongLine bytes) (IsFirstWrongLine bytes) (Unit {0}) (IsCertificateText bytes) (λ n wrong. wrong) (λ want. good) fault built
 
--- after the end line no text may follow
+-- if nothing follows a certificate's last line, the text is the certificate's
 pub is_whole : (c : CertificateData) (bytes rest : List ℕ) (lines_read : ℕ) → IsReadUpTo (AtEnd c) bytes rest lines_read → length rest ≡ 0 → bytes ≡ text c
 unfolding cut_text
 is_whole c bytes [] lines_read at ended = text_of_cut c bytes (at.lines ∙ append-nil (lines c)) at.tail
 is_whole c bytes (b ∷ rest) lines_read at ended = absurd (omega arith)
 
+-- a text that is cut into no lines and an empty tail is empty
 empty_text : (rest : List ℕ) → (cut_text rest).lines ≡ [] → (cut_text rest).tail ≡ [] → rest ≡ []
 unfolding text_of_lines
 empty_text rest lines_is tail_is =
     joined_lines rest ∙ ap₂ (λ (ls : List (List ℕ)) (xs : List ℕ). text_of_lines ls ++ xs) lines_is tail_is
 
+-- if text follows a certificate's last line, the line after that is the first wrong one
 pub wrong_behind : (c : CertificateData) (bytes rest : List ℕ) (lines_read : ℕ) → IsReadUpTo (AtEnd c) bytes rest lines_read → 0 < length rest →
     IsFirstWrongLine bytes (lines_read + 1)
 wrong_behind c bytes rest lines_read at some = record {
@@ -209,7 +221,7 @@ wrong_behind c bytes rest lines_read at some = record {
       absurd (omega arith);
 }
 
--- one more valid line
+-- after a valid line a reader is at the next stage
 pub at_next : (s r : ReadingStage) (bytes rest line after : List ℕ) (lines_read : ℕ) → IsReadUpTo s bytes rest lines_read → IsFirstLine rest line after →
     IsStage r → lines_before r ≡ lines_before s ++ (line ∷ []) → IsReadUpTo r bytes after (lines_read + 1)
 at_next s r bytes rest line after lines_read at first good longer = record {
@@ -221,23 +233,25 @@ at_next s r bytes rest line after lines_read at first good longer = record {
   count = ap (λ (n : ℕ). n + 1) at.count ∙ sym (length-append (lines_before s) (line ∷ [])) ∙ ap length (sym longer);
 }
 
+-- at the start of a text a reader is at the header, and no line was read
 pub at_start : (bytes : List ℕ) → IsReadUpTo AtHeader bytes bytes 0
 at_start bytes = record { is_stage = tt; lines = refl; tail = refl; count = refl }
 
--- the laws
+-- certificates with the same text are the same
 pub text_is_told : (c d : CertificateData) → IsCertificate c → IsCertificate d → text c ≡ text d → c ≡ d
 text_is_told c d c_good d_good e =
     let here : ((cut_text (text c)).lines ≡ lines c) × ((cut_text (text c)).tail ≡ []) = cut_of_text c (text c) c_good refl in
     let there : ((cut_text (text c)).lines ≡ lines d) × ((cut_text (text c)).tail ≡ []) = cut_of_text d (text c) d_good e in
     (lines_same c d [] c_good d_good (sym here.0 ∙ there.0 ∙ sym (append-nil (lines d)))).0
 
+-- the result of reading a certificate's text is the certificate, or an allocation failure
 pub gives : (bytes : List ℕ) (c : CertificateData) (result : Result CertificateData CertFault) → IsReadResult bytes result → IsCertificate c →
     bytes ≡ text c → IsCertificateOrMemory c result
 gives bytes c (Ok d) reading good e = text_is_told d c reading.0 good (sym reading.1 ∙ e)
 gives bytes c (Err fault) reading good e =
     reading_fault (IsFirstWrongLine bytes) (λ n. ⊥) (IsCertificateText bytes) (Unit {0}) (λ n wrong. wrong.no_text c good e) (λ text. tt) fault reading
 
--- of two cuts of one list the longer continues with the next element
+-- of two cuts of one list the longer front continues the shorter one with the next element
 record Longer (before rest longer : List (List ℕ)) : Type 0 where
   line : List ℕ
   after : List (List ℕ)
@@ -245,6 +259,7 @@ record Longer (before rest longer : List (List ℕ)) : Type 0 where
   rest_is : rest ≡ line ∷ after
   longer_is : longer ≡ before ++ (line ∷ more)
 
+-- if a list of lines is cut in two ways, the longer front continues the shorter one with the next line
 longer_cut : (before rest longer others : List (List ℕ)) → length before < length longer →
     before ++ rest ≡ longer ++ others → Longer before rest longer
 longer_cut [] rest [] others h e = absurd (omega arith)
@@ -263,9 +278,11 @@ longer_cut (x ∷ before) rest (y ∷ longer) others h e =
       longer_is = ap₂ (λ (z : List ℕ) (zs : List (List ℕ)). z ∷ zs) (sym first) next.longer_is;
     }
 
+-- a line in the middle of a list ends the lines before it and precedes the others
 split : (xs : List (List ℕ)) (x : List ℕ) (ys zs : List (List ℕ)) → (xs ++ (x ∷ ys)) ++ zs ≡ (xs ++ (x ∷ [])) ++ (ys ++ zs)
 split xs x ys zs = simp append_assoc
 
+-- of two first wrong lines of a text the first isn't before the second
 none_before : (bytes : List ℕ) (m n : ℕ) (a : IsFirstWrongLine bytes m) (b : IsFirstWrongLine bytes n) →
     length a.before < length b.before → ⊥
 none_before bytes m n a b h =
@@ -278,6 +295,7 @@ none_before bytes m n a b h =
       is = b.begins.is ∙ ap (λ (ls : List (List ℕ)). ls ++ b.begins.more) next.longer_is ∙ split a.before next.line next.more b.begins.more;
     })
 
+-- a text has at most one first wrong line
 pub wrong_is_one : (bytes : List ℕ) (m n : ℕ) → IsFirstWrongLine bytes m → IsFirstWrongLine bytes n → m ≡ n
 wrong_is_one bytes m n a b =
     elim (cases_order (length a.before) (length b.before)) [
@@ -289,7 +307,7 @@ wrong_is_one bytes m n a b =
           ]
     ]
 
--- places that were read one by one
+-- p places that were read one by one: `text` begins at the first place line, and `rest` remains of it
 pub record PlacesRead (h : CertificateHead) (text : List ℕ) (places : List (List Spot)) (rest : List ℕ) (p : ℕ) : Type 0 where
   pub count : length places ≡ p
   pub good : All (IsPlaceOf h.renditions) places
@@ -297,9 +315,11 @@ pub record PlacesRead (h : CertificateHead) (text : List ℕ) (places : List (Li
   pub lines : (cut_text text).lines ≡ map place_line places ++ (cut_text rest).lines
   pub tail : (cut_text text).tail ≡ (cut_text rest).tail
 
+-- before the first place line no place was read
 pub no_place_read : (h : CertificateHead) (text : List ℕ) → PlacesRead h text [] text 0
 no_place_read h text = record { count = refl; good = All-nil (IsPlaceOf h.renditions); shorter = omega arith; lines = refl; tail = refl }
 
+-- after a place line one more place was read
 pub place_more : (h : CertificateHead) (text : List ℕ) (places : List (List Spot)) (rest : List ℕ) (p : ℕ) (place : List Spot) (after : List ℕ) →
     PlacesRead h text places rest p → IsPlaceOf h.renditions place → IsFirstLine rest (place_line place) after → length after < length rest →
     PlacesRead h text (places ++ (place ∷ [])) after (p + 1)
@@ -316,12 +336,13 @@ place_more h text places rest p place after read good first shorter =
       tail = read.tail ∙ (first_cut rest (place_line place) after first).1;
     }
 
--- the header lines, followed by these places
+-- if the header of a text was read, its lines are the header's, then those of the rest
 head_passed : (h : CertificateHead) (bytes whole : List ℕ) (first : ℕ) → IsReadUpTo (AtPlace h []) bytes whole first →
     (cut_text bytes).lines ≡ lines_of_head h ++ (cut_text whole).lines
 head_passed h bytes whole first at =
     at.lines ∙ ap (λ (ls : List (List ℕ)). ls ++ (cut_text whole).lines) (append-nil (lines_of_head h))
 
+-- the number of lines read is that of the header lines and the places
 places_counted : (h : CertificateHead) (bytes whole : List ℕ) (first : ℕ) (places : List (List Spot)) (rest : List ℕ) (p : ℕ) →
     IsReadUpTo (AtPlace h []) bytes whole first → PlacesRead h whole places rest p → first + p ≡ length (lines_of_head h ++ map place_line places)
 places_counted h bytes whole first places rest p at read =
@@ -331,7 +352,7 @@ places_counted h bytes whole first places rest p at read =
     length-append (lines_of_head h) (map place_line places) in
     omega (arith, head, count, all, read.count)
 
--- while places remain
+-- while fewer places were read than the header announces, a place line comes next
 pub at_place : (h : CertificateHead) (bytes whole : List ℕ) (first : ℕ) (places : List (List Spot)) (rest : List ℕ) (p : ℕ) →
     IsReadUpTo (AtPlace h []) bytes whole first → PlacesRead h whole places rest p → p < h.count → IsReadUpTo (AtPlace h places) bytes rest (first + p)
 at_place h bytes whole first places rest p at read more = record {
@@ -342,7 +363,7 @@ at_place h bytes whole first places rest p at read more = record {
   count = places_counted h bytes whole first places rest p at read;
 }
 
--- when all places were read
+-- when as many places were read as the header announces, the claim comes next
 pub at_claim : (h : CertificateHead) (bytes whole : List ℕ) (first : ℕ) (places : List (List Spot)) (rest : List ℕ) →
     IsReadUpTo (AtPlace h []) bytes whole first → PlacesRead h whole places rest h.count →
     IsReadUpTo (AtClaim (table_of h.goal h.renditions places)) bytes rest (first + h.count)
@@ -366,27 +387,31 @@ at_claim h bytes whole first places rest at read =
           ∙ ap (λ (ls : List (List ℕ)). length (ls ++ map place_line places)) counted;
     }
 
--- the header lines, one by one
+-- after the first line of version 1 the target comes next
 pub at_target : (bytes after : List ℕ) → IsFirstLine bytes header_line after → IsReadUpTo (AtTarget Deviation) bytes after 1
 at_target bytes after first = at_next AtHeader (AtTarget Deviation) bytes bytes header_line after 0 (at_start bytes) first (omega arith) refl
 
+-- after the first line of version 2 the charge comes next
 pub at_rule : (bytes after : List ℕ) → IsFirstLine bytes ruled_header_line after → IsReadUpTo AtRule bytes after 1
 at_rule bytes after first = at_next AtHeader AtRule bytes bytes ruled_header_line after 0 (at_start bytes) first tt refl
 
+-- after a charge in range the target comes next
 pub at_charged : (bytes rest after : List ℕ) (charge : ℕ) → IsReadUpTo AtRule bytes rest 1 →
     (0 ≤ charge) × (charge ≤ 3600000000) × IsFirstLine rest (charge_line charge) after → IsReadUpTo (AtTarget (Charged charge)) bytes after 2
 at_charged bytes rest after charge at read =
     at_next AtRule (AtTarget (Charged charge)) bytes rest (charge_line charge) after 1 at read.2 read.1 refl
 
+-- after a target in range the preferred length comes next
 pub at_preferred : (bytes rest after : List ℕ) (rule : CostRule) (t lines_read : ℕ) → IsReadUpTo (AtTarget rule) bytes rest lines_read →
     (1 ≤ t) × (t ≤ 3600) × IsFirstLine rest (target_line t) after → IsReadUpTo (AtPreferred rule t) bytes after (lines_read + 1)
 at_preferred bytes rest after rule t lines_read at read =
     at_next (AtTarget rule) (AtPreferred rule t) bytes rest (target_line t) after lines_read at read.2 (at.is_stage, (read.0, read.1)) refl
 
--- the number of lines read, in another spelling
+-- the number of lines read may be replaced by an equal one
 counted_as : (s : ReadingStage) (bytes rest : List ℕ) (m n : ℕ) → m ≡ n → IsReadUpTo s bytes rest m → IsReadUpTo s bytes rest n
 counted_as s bytes rest m n same at = subst (IsReadUpTo s bytes rest) same at
 
+-- after a preferred length in range the number of renditions comes next
 pub at_renditions : (bytes rest after : List ℕ) (rule : CostRule) (t p lines_read : ℕ) → IsReadUpTo (AtPreferred rule t) bytes rest (lines_read + 1) →
     (1 ≤ p) × (p ≤ 3600000000) × IsFirstLine rest (preferred_line p) after → IsReadUpTo (AtRenditions (goal_of t p rule)) bytes after (lines_read + 2)
 at_renditions bytes rest after rule t p lines_read at read =
@@ -395,12 +420,14 @@ at_renditions bytes rest after rule t p lines_read at read =
     (record { target = at.is_stage.1; preferred = (read.0, read.1); charge = at.is_stage.0 })
     (sym (append_assoc (rule_lines rule) (target_line t ∷ []) (preferred_line p ∷ []))))
 
+-- after a number of renditions in range the number of places comes next
 pub at_count : (bytes rest after : List ℕ) (g : Goal) (r lines_read : ℕ) → IsReadUpTo (AtRenditions g) bytes rest lines_read →
     (1 ≤ r) × (r ≤ 16) × IsFirstLine rest (renditions_line r) after → IsReadUpTo (AtCount g r) bytes after (lines_read + 1)
 at_count bytes rest after g r lines_read at read =
     at_next (AtRenditions g) (AtCount g r) bytes rest (renditions_line r) after lines_read at read.2 (at.is_stage, (read.0, read.1))
     (sym (append_assoc (rule_lines g.rule) (target_line g.target ∷ preferred_line g.preferred ∷ []) (renditions_line r ∷ [])))
 
+-- after a number of places in range the first place comes next
 pub at_places : (bytes rest after : List ℕ) (h : CertificateHead) (lines_read : ℕ) → IsReadUpTo (AtCount h.goal h.renditions) bytes rest (lines_read + 1) →
     (2 ≤ h.count) × (h.count ≤ 16384) × IsFirstLine rest (places_line h.count) after → IsReadUpTo (AtPlace h []) bytes after (lines_read + 2)
 at_places bytes rest after h lines_read at read =
@@ -415,11 +442,12 @@ at_places bytes rest after h lines_read at read =
     ∙ sym (append_assoc (rule_lines h.goal.rule) (target_line h.goal.target ∷ preferred_line h.goal.preferred ∷ renditions_line h.renditions ∷ [])
     (places_line h.count ∷ []))))
 
--- a first line that is of neither version
+-- if a text has no line, line 1 is the first wrong one
 pub header_missing : (bytes : List ℕ) → (cut_text bytes).lines ≡ [] → IsFirstWrongLine bytes 1
 header_missing bytes none =
     first_wrong AtHeader tt bytes bytes 0 (at_start bytes) (λ line after here good. let e : [] ≡ line ∷ after = sym none ∙ here in absurd cc)
 
+-- if the first line is that of neither version, it is the first wrong line
 pub header_bad : (bytes line after : List ℕ) → IsFirstLine bytes line after → (line ≡ header_line → ⊥) → (line ≡ ruled_header_line → ⊥) →
     IsFirstWrongLine bytes 1
 header_bad bytes line after first not_one not_two =

@@ -27,7 +27,7 @@ CutCheckResult t total plan prices (Err (PriceStep p q)) =
 CutCheckResult t total plan prices (Err EndReached) = ⊥
 CutCheckResult t total plan prices (Err Memory) = ⊥
 
--- the result for no cut
+-- the result for a claim that there is no cut, in the same way
 abbrev pub NoneCheckResult : Table → List Bool → Result Verdict CertFault → Type 0
 NoneCheckResult t closed (Ok (Cut cost)) = ⊥
 NoneCheckResult t closed (Ok NoCut) = IsGoodNone t closed

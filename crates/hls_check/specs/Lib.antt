@@ -1,3 +1,5 @@
+-- Definitions of a certificate's check and of its text: what each result means, the first fault,
+-- and the stages in which the lines are read.
 pub mod Faults
 pub mod CheckResults
 pub mod Rows

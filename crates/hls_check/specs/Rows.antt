@@ -19,22 +19,22 @@ abbrev pub claimed_prices : ClaimData → List (Option ℕ)
 claimed_prices (CutClaim total plan prices) = prices
 claimed_prices (NoneClaim closed) = map price_if_closed closed
 
--- a step from place p to place q respects them
+-- the step from place p to place q respects the prices of a claim
 abbrev pub StepKeepsPrices : Table → ClaimData → ℕ → ℕ → Type 0
 StepKeepsPrices t shown = CutKeepsPrices t (claimed_prices shown)
 
--- all steps from the places in `first..end` respect them
+-- all steps from the places in `first..end` respect the prices of a claim
 abbrev pub RowsKeepPrices : Table → ClaimData → ℕ → ℕ → Type 0
 RowsKeepPrices t shown first end = (i j : ℕ) → first ≤ i → i < end → StepKeepsPrices t shown i j
 
--- the first step that doesn't, among those from the places in `first..end`
+-- the step from p to q is the first that breaks the prices, among those from the places in `first..end`
 pub record IsFirstOfRows (t : Table) (shown : ClaimData) (first end p q : ℕ) : Type 0 where
   pub from : first ≤ p
   pub below : p < end
   pub in_row : IsFirstInRow (StepKeepsPrices t shown) p q
   pub rows : RowsKeepPrices t shown first p
 
--- the first step from place p that doesn't, where p is at least `first`
+-- the step from p to q is the first from p that breaks the prices, and p is one of the 32 places from `first` on
 pub record IsFirstFound (t : Table) (shown : ClaimData) (first p q : ℕ) : Type 0 where
   pub from : first ≤ p
   pub below : p < first + 32
@@ -44,7 +44,7 @@ pub record IsFirstFound (t : Table) (shown : ClaimData) (first p q : ℕ) : Type
 abbrev pub BlockKeepsPrices : Table → ClaimData → ℕ → Type 0
 BlockKeepsPrices t shown block = RowsKeepPrices t shown (block * 32) (block * 32 + 32)
 
--- the first of some blocks with a step that doesn't
+-- this is the first block in `first..end` with a step that breaks the prices
 pub record IsFirstBadBlock (t : Table) (shown : ClaimData) (first end block : ℕ) : Type 0 where
   pub from : first ≤ block
   pub below : block < end
@@ -55,20 +55,20 @@ pub record IsFirstBadBlock (t : Table) (shown : ClaimData) (first end block : �
 abbrev pub ColumnKeepsPrices : Table → ClaimData → ℕ → ℕ → ℕ → Type 0
 ColumnKeepsPrices t shown first end q = (i : ℕ) → first ≤ i → i < end → StepKeepsPrices t shown i q
 
--- the first of these places with a step that doesn't
+-- place p is the first in `first..end` from which the step to q breaks the prices
 pub record IsFirstOfColumn (t : Table) (shown : ClaimData) (first end q p : ℕ) : Type 0 where
   pub from : first ≤ p
   pub below : p < end
   pub broken : StepKeepsPrices t shown p q → ⊥
   pub column : ColumnKeepsPrices t shown first p q
 
--- no place with a price in `first..end` has a lower price, and none starts later
+-- of the places in `first..end` that have a price, none has a lower price than this, and none starts later than this
 abbrev pub IsLowerBound : Table → ClaimData → ℕ → ℕ → ℕ → ℕ → Type 0
 IsLowerBound t shown first end price start =
     (p v : ℕ) → first ≤ p → p < end → price_at (claimed_prices shown) p ≡ Some v →
     (price ≤ v) × ((spot_in (place_at t.places p) 0).start ≤ start)
 
--- a price so low that, with this floor, all steps to the place respect it
+-- if some places have prices of at least this one, or none, and start by this time, every step from them to q respects the prices
 abbrev pub IsBelowBound : Table → ClaimData → ℕ → ℕ → ℕ → Type 0
 IsBelowBound t shown price start q = (first end : ℕ) → IsLowerBound t shown first end price start → ColumnKeepsPrices t shown first end q
 
@@ -77,21 +77,21 @@ abbrev pub IsFirstOfRowsOrNone : Table → ClaimData → ℕ → ℕ → Option 
 IsFirstOfRowsOrNone t shown first end found =
     MatchOption found (RowsKeepPrices t shown first end) (λ step. IsFirstOfRows t shown first end step.0 step.1)
 
--- the same of all steps
+-- None if all steps respect the prices, otherwise the first that doesn't
 abbrev pub IsFirstBrokenOrNone : Table → ClaimData → Option (ℕ × ℕ) → Type 0
 IsFirstBrokenOrNone t shown found =
     MatchOption found ((p q : ℕ) → StepKeepsPrices t shown p q) (λ step. IsFirstBrokenStep (StepKeepsPrices t shown) step.0 step.1)
 
--- the same of some blocks
+-- None if all steps from the blocks in `first..end` respect the prices, otherwise the first block with a step that doesn't
 abbrev pub IsFirstBadBlockOrNone : Table → ClaimData → ℕ → ℕ → Option ℕ → Type 0
 IsFirstBadBlockOrNone t shown first end found =
     MatchOption found ((b : ℕ) → first ≤ b → b < end → BlockKeepsPrices t shown b) (IsFirstBadBlock t shown first end)
 
--- whether a block has a step that doesn't
+-- the flag says whether a block has a step that breaks the prices
 abbrev pub DecidesBlock : Table → ClaimData → ℕ → Bool → Type 0
 DecidesBlock t shown block bad = MatchBool bad (BlockKeepsPrices t shown block → ⊥) (BlockKeepsPrices t shown block)
 
--- the claim passes the tests that precede those of the steps
+-- the claim passes the tests that come before those of the steps
 abbrev pub HasNoEarlyFault : Table → ClaimData → Type 0
 HasNoEarlyFault t (CutClaim total plan prices) =
     IsSorted t × IsPlan t plan × HasEqualCosts t total plan prices × (price_at prices 0 ≡ Some 0)

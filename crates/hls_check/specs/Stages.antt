@@ -14,13 +14,16 @@ use Rattle.hls_check.specs.declared.wrong_line.WrongLine.{WrongLine}
 use Rattle.hls_check.specs.WrongLines.{IsFirstWrongLine, IsCertificateText, IsReadFault, IsReadResult}
 use Rattle.hls_check.specs.Text.{header_line, ruled_header_line, charge_line, rule_lines, target_line, preferred_line, renditions_line, places_line, cut_line, none_line, end_line, plan_line, price_line, closed_line, place_line, head_lines, table_lines, lines, PricedPlace, priced_places_from, closed_places_from}
 
--- the header lines
+-- the header lines of this header
 abbrev pub lines_of_head : CertificateHead → List (List ℕ)
 lines_of_head h = head_lines h.goal h.renditions h.count
 
+-- the certificate of this table and this claim
 abbrev pub certificate_with : Table → ClaimData → CertificateData
 certificate_with t shown = record { table = t; shown = shown }
 
+-- Which line a reader expects next, with what it has read so far. At the rule it has read the first line of version 2; `AtEnd`
+-- follows the last line.
 pub data ReadingStage : Type 0 where
   AtHeader : ReadingStage
   AtRule : ReadingStage
@@ -35,7 +38,7 @@ pub data ReadingStage : Type 0 where
   AtClosed : (table : Table) (closed : List Bool) → ReadingStage
   AtEnd : (certificate : CertificateData) → ReadingStage
 
--- the lines that were read
+-- the lines that were read before this stage
 abbrev pub lines_before : ReadingStage → List (List ℕ)
 lines_before AtHeader = []
 lines_before AtRule = ruled_header_line ∷ []
@@ -52,59 +55,70 @@ lines_before (AtPrice table total plan prices) =
 lines_before (AtClosed table closed) = table_lines table ++ (none_line ∷ map closed_line (closed_places_from 0 closed))
 lines_before (AtEnd certificate) = lines certificate
 
+-- a charge is from 0 to an hour, in microseconds
 abbrev pub IsCharge : ℕ → Type 0
 IsCharge n = (0 ≤ n) × (n ≤ charge_limit)
 
+-- a rule's charge is at most an hour, in microseconds
 abbrev pub IsRule : CostRule → Type 0
 IsRule rule = charge_of rule ≤ charge_limit
 
+-- a target is from 1 second to an hour, in seconds
 abbrev pub IsTarget : ℕ → Type 0
 IsTarget n = (1 ≤ n) × (n ≤ target_limit)
 
+-- a preferred length is from 1 microsecond to an hour, in microseconds
 abbrev pub IsPreferred : ℕ → Type 0
 IsPreferred n = (1 ≤ n) × (n ≤ preferred_limit)
 
+-- a number of renditions is from 1 to 16
 abbrev pub IsRenditionCount : ℕ → Type 0
 IsRenditionCount n = (1 ≤ n) × (n ≤ rendition_limit)
 
+-- a number of places is from 2 to 16384
 abbrev pub IsPlaceCount : ℕ → Type 0
 IsPlaceCount n = (2 ≤ n) × (n ≤ place_limit)
 
+-- what the header lines say is in its ranges
 pub record IsHead (h : CertificateHead) : Type 0 where
   pub goal : IsGoal h.goal
   pub renditions : IsRenditionCount h.renditions
   pub count : IsPlaceCount h.count
 
+-- these are places of the table that the header announces, and at least one more is to be read
 pub record AreFirstPlaces (h : CertificateHead) (places : List (List Spot)) : Type 0 where
   pub head : IsHead h
   pub room : length places < h.count
   pub each : All (IsPlaceOf h.renditions) places
 
--- one more than the last place that has a price; the list begins at place p
+-- one more than the last place that has a price, or p if none has one
 abbrev pub place_after_priced : ℕ → List PricedPlace → ℕ
 place_after_priced p [] = p
 place_after_priced p (q ∷ rest) = place_after_priced (q.place + 1) rest
 
--- one more than the last of these places, or p
+-- one more than the last place of a closed set, or p if it has none
 abbrev pub place_after_closed : ℕ → List ℕ → ℕ
 place_after_closed p [] = p
 place_after_closed p (q ∷ rest) = place_after_closed (q + 1) rest
 
+-- a cost is below 2^53, and a plan isn't empty and has only places below `count`
 pub record IsPlanForm (count total : ℕ) (plan : List ℕ) : Type 0 where
   pub total_small : total < 2 ^ 53
   pub not_empty : 0 < length plan
   pub in_range : All (λ p. p < count) plan
 
--- the list ends with the last price that was read
+-- the prices that were read of a table of `count` places; the list ends with the last of them
 pub record AreFirstPrices (count : ℕ) (prices : List (Option ℕ)) : Type 0 where
   pub within : length prices ≤ count
   pub ends_after_last : length prices ≡ place_after_priced 0 (priced_places_from 0 prices)
   pub small : All IsPriceInRange prices
 
+-- the flags of the closed set that were read of a table of `count` places; the list ends with its last place
 pub record AreFirstClosed (count : ℕ) (closed : List Bool) : Type 0 where
   pub within : length closed ≤ count
   pub ends_after_last : length closed ≡ place_after_closed 0 (closed_places_from 0 closed)
 
+-- what was read up to this stage is in its ranges
 abbrev pub IsStage : ReadingStage → Type 0
 IsStage AtHeader = Unit {0}
 IsStage AtRule = Unit {0}
@@ -120,23 +134,26 @@ IsStage (AtPrice table total plan prices) =
 IsStage (AtClosed table closed) = IsTable table × AreFirstClosed (length table.places) closed
 IsStage (AtEnd certificate) = IsCertificate certificate
 
--- a line of a word and a number in a range
+-- a line that spells a number in a range
 pub record IsNumberLine (spelling : ℕ → List ℕ) (IsGood : ℕ → Type 0) (line : List ℕ) : Type 0 where
   pub number : ℕ
   pub good : IsGood number
   pub is : line ≡ spelling number
 
+-- a line is the line of some place of this many renditions
 pub record IsPlaceLine (renditions : ℕ) (line : List ℕ) : Type 0 where
   pub place : List Spot
   pub good : IsPlaceOf renditions place
   pub is : line ≡ place_line place
 
+-- a line is the plan line of some plan that isn't empty and has only places below `count`
 pub record IsPlanLine (count : ℕ) (line : List ℕ) : Type 0 where
   pub plan : List ℕ
   pub not_empty : 0 < length plan
   pub in_range : All (λ p. p < count) plan
   pub is : line ≡ plan_line plan
 
+-- a line is the price line of some place in `low..count`
 pub record IsPriceLine (low count : ℕ) (line : List ℕ) : Type 0 where
   pub priced_place : PricedPlace
   pub above : low ≤ priced_place.place
@@ -144,13 +161,14 @@ pub record IsPriceLine (low count : ℕ) (line : List ℕ) : Type 0 where
   pub small : priced_place.price < 2 ^ 53
   pub is : line ≡ price_line priced_place
 
+-- a line is the line of the closed set for some place in `low..count`
 pub record IsClosedLine (low count : ℕ) (line : List ℕ) : Type 0 where
   pub place : ℕ
   pub above : low ≤ place
   pub below : place < count
   pub is : line ≡ closed_line place
 
--- which line may come next
+-- a line may come next at this stage
 abbrev pub IsNext : ReadingStage → List ℕ → Type 0
 IsNext AtHeader line = (line ≡ header_line) ⊎ (line ≡ ruled_header_line)
 IsNext AtRule line = IsNumberLine charge_line IsCharge line
@@ -167,7 +185,7 @@ IsNext (AtClosed table closed) line =
     (line ≡ end_line) ⊎ IsClosedLine (length closed) (length table.places) line
 IsNext (AtEnd certificate) line = ⊥
 
--- a text from which `lines_read` lines were read, and the rest of it
+-- a reader of a text is at this stage: it has read `lines_read` lines, and `rest` remains
 pub record IsReadUpTo (s : ReadingStage) (bytes rest : List ℕ) (lines_read : ℕ) : Type 0 where
   pub is_stage : IsStage s
   pub lines : (cut_text bytes).lines ≡ lines_before s ++ (cut_text rest).lines
@@ -179,7 +197,7 @@ abbrev pub IsWrongLineAfter : (List ℕ → Type 0) → List ℕ → ℕ → ℕ
 IsWrongLineAfter IsGood rest lines_read n =
     (n ≡ lines_read + 1) × ((line : List ℕ) (after : List (List ℕ)) → (cut_text rest).lines ≡ line ∷ after → IsGood line → ⊥)
 
--- the same for a reader that allocates, which can fail
+-- the same, or an allocation failure, for a reader that allocates
 abbrev pub IsWrongLineOrMemory : (List ℕ → Type 0) → List ℕ → ℕ → CertFault → Type 0
 IsWrongLineOrMemory IsGood rest lines_read fault = IsReadFault (IsWrongLineAfter IsGood rest lines_read) (Unit {0}) fault
 
@@ -212,45 +230,50 @@ abbrev pub HasPlaces : CertificateHead → List ℕ → ℕ → List (List Spot)
 HasPlaces head bytes first places rest =
     IsReadUpTo (AtClaim (table_of head.goal head.renditions places)) bytes rest (first + head.count)
 
--- a cut, or a closed set, was read to its end
+-- the certificate of a table and a cut was read to its end
 abbrev pub EndsCut : List ℕ → Table → ℕ → List ℕ → List (Option ℕ) → List ℕ → ℕ → Type 0
 EndsCut bytes t total plan prices rest lines_read = IsReadUpTo (AtEnd (certificate_with t (CutClaim total plan prices))) bytes rest lines_read
 
+-- the certificate of a table and a closed set was read to its end
 abbrev pub EndsNone : List ℕ → Table → List Bool → List ℕ → ℕ → Type 0
 EndsNone bytes t closed rest lines_read = IsReadUpTo (AtEnd (certificate_with t (NoneClaim closed))) bytes rest lines_read
 
--- reading or scanning a text stops with this fault
+-- reading a text stops with this fault
 abbrev pub StopsBuilding : List ℕ → CertFault → Type 0
 StopsBuilding bytes fault = Builds bytes (Err fault)
 
+-- scanning a text stops with this first wrong line
 abbrev pub StopsScanning : List ℕ → WrongLine → Type 0
 StopsScanning bytes wrong = IsFirstWrongLine bytes wrong.line
 
--- what holds of every text whose rest, after the rule, is this
+-- the clause holds for every text whose rule was read and whose rest is this
 abbrev pub WhenAtTarget : CostRule → List ℕ → ℕ → (List ℕ → Type 0) → Type 0
 WhenAtTarget rule rest lines_read Then = (bytes : List ℕ) → IsReadUpTo (AtTarget rule) bytes rest lines_read → Then bytes
 
--- the same after the goal
+-- the clause holds for every text whose goal was read, which is this one, and whose rest is this
 abbrev pub WhenAtRenditions : Goal → List ℕ → ℕ → (List ℕ → Type 0) → Type 0
 WhenAtRenditions goal rest lines_read Then = (bytes : List ℕ) → HasGoal bytes goal rest lines_read → Then bytes
 
--- the same after the header
+-- the clause holds for every text whose header was read, which is this one, and whose rest is this
 abbrev pub WhenAtPlace : CertificateHead → List ℕ → ℕ → (List ℕ → Type 0) → Type 0
 WhenAtPlace head rest lines_read Then = (bytes : List ℕ) → IsReadUpTo (AtPlace head []) bytes rest lines_read → Then bytes
 
--- the same at the claim, at the plan, after the plan, or after the line `none`, for a table of the given number of places
+-- the clause holds for every text whose table was read, which has `count` places, and whose rest is this
 abbrev pub WhenAtClaim : ℕ → List ℕ → ℕ → (List ℕ → Type 0) → Type 0
 WhenAtClaim count rest lines_read Then = (bytes : List ℕ) (t : Table) → length t.places ≡ count → IsReadUpTo (AtClaim t) bytes rest lines_read → Then bytes
 
+-- the same after the line of a cut's cost as well
 abbrev pub WhenAtPlan : ℕ → List ℕ → ℕ → (List ℕ → Type 0) → Type 0
 WhenAtPlan count rest lines_read Then =
     (bytes : List ℕ) (t : Table) (total : ℕ) → length t.places ≡ count → IsReadUpTo (AtPlan t total) bytes rest lines_read → Then bytes
 
+-- the same after the plan line as well; the clause also takes the relation that the certificate of this cut was read to its end
 abbrev pub WhenAtPrice : ℕ → List ℕ → ℕ → (List ℕ → (List (Option ℕ) → List ℕ → ℕ → Type 0) → Type 0) → Type 0
 WhenAtPrice count rest lines_read Then =
     (bytes plan : List ℕ) (t : Table) (total : ℕ) → length t.places ≡ count → IsReadUpTo (AtPrice t total plan []) bytes rest lines_read →
     Then bytes (EndsCut bytes t total plan)
 
+-- the same after the table and the line `none`; the clause also takes the relation that the certificate of no cut was read to its end
 abbrev pub WhenAtClosed : ℕ → List ℕ → ℕ → (List ℕ → (List Bool → List ℕ → ℕ → Type 0) → Type 0) → Type 0
 WhenAtClosed count rest lines_read Then =
     (bytes : List ℕ) (t : Table) → length t.places ≡ count → IsReadUpTo (AtClosed t []) bytes rest lines_read →

@@ -24,7 +24,7 @@ pub record IsFirstWrongLine (bytes : List ℕ) (n : ℕ) : Type 0 where
   pub wrong : (line : List ℕ) (after : List (List ℕ)) → rest ≡ line ∷ after → BeginsCertificate (before ++ (line ∷ [])) → ⊥
   pub no_text : (c : CertificateData) → IsCertificate c → bytes ≡ text c → ⊥
 
--- a certificate's text
+-- a text is that of some certificate
 pub record IsCertificateText (bytes : List ℕ) : Type 0 where
   pub certificate : CertificateData
   pub is_certificate : IsCertificate certificate
@@ -48,7 +48,7 @@ abbrev pub IsReadResult : List ℕ → Result CertificateData CertFault → Type
 IsReadResult bytes (Ok c) = IsCertificate c × (bytes ≡ text c)
 IsReadResult bytes (Err fault) = IsReadFault (IsFirstWrongLine bytes) (IsCertificateText bytes) fault
 
--- the certificate itself, or an allocation failure
+-- the result is this certificate, or an allocation failure
 abbrev pub IsCertificateOrMemory : CertificateData → Result CertificateData CertFault → Type 0
 IsCertificateOrMemory c (Ok d) = d ≡ c
 IsCertificateOrMemory c (Err fault) = IsReadFault (λ n. ⊥) (Unit {0}) fault

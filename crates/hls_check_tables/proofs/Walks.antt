@@ -1,3 +1,4 @@
+-- Along a walk of allowed steps: prices bound its cost from below, and a closed set isn't left.
 use Rattle.std.proofs.Common.{◌≡◌, ℕ, zero, suc, ◌+◌, ◌-◌, ◌<◌, ◌≤◌, List, [], ◌∷◌, length, Option, Some, None, Bool, true, false, arith, add-zero, inl, inr, refl, sym, subst}
 use Rattle.std.proofs.lemmas.Bool.{cases_lt}
 use Rattle.hls_check_tables.specs.Tables.{Table, IsTable, spot_in, place_at}
@@ -10,7 +11,7 @@ use Rattle.hls_check_tables.specs.Certificates.{price_at, is_closed, KeepsPrice,
 abbrev fragment_of : Table → ℕ → ℕ
 fragment_of t p = (spot_in (place_at t.places p) 0).fragment
 
--- in a sorted table it never decreases, over any distance
+-- in a sorted table the fragment number in rendition 0 never decreases, over any distance
 fragment-never_falls : (t : Table) → IsTable t → IsSorted t → (p k : ℕ) → p + k < length t.places →
     fragment_of t p ≤ fragment_of t (p + k)
 fragment-never_falls t ok sorted p zero h = rw add-zero (omega arith)
@@ -20,7 +21,7 @@ fragment-never_falls t ok sorted p (suc k) h =
     ((sorted (p + suc k) h).after (p + k) (omega arith)).keeps 0 (omega (arith, ok.renditions)) in
     omega (arith, so_far, next)
 
--- so an allowed step leads forward
+-- over a sorted table, an allowed step leads forward
 pub Allowed-rises : (t : Table) → IsTable t → IsSorted t → (p q : ℕ) → Allowed t p q → p < q
 Allowed-rises t ok sorted p q allowed =
     elim (cases_lt p q) [
@@ -35,7 +36,7 @@ Allowed-rises t ok sorted p q allowed =
           absurd (omega (arith, back, forth))
     ]
 
--- what a place's price implies for the place after a step that respects the prices
+-- after a step that respects the prices from a place with a price, the next place has one, at most higher by the step's cost
 pub Keeps-priced : (step a : ℕ) (from to : Option ℕ) → from ≡ Some a → KeepsPrice step from to →
     (b : ℕ) × (to ≡ Some b) × (b ≤ a + step)
 Keeps-priced step a None to priced keeps = cc
@@ -71,6 +72,7 @@ total-least t total plan prices ok good (p ∷ rest) is_plan =
     let same : total ≡ last.0 = cc in
     omega (arith, same, last.2)
 
+-- the plan of a good certificate of a cut is optimal
 pub least_from_good : (t : Table) (total : ℕ) (plan : List ℕ) (prices : List (Option ℕ)) → IsTable t →
     IsGoodCut t total plan prices → IsLeast t plan
 least_from_good t total plan prices ok good = record {
@@ -78,7 +80,7 @@ least_from_good t total plan prices ok good = record {
   least = λ other is_plan. omega (arith, good.paid.paid, total-least t total plan prices ok good other is_plan);
 }
 
--- a walk from the closed set stays in it
+-- a walk of allowed steps from the closed set stays in it
 closed-end : (t : Table) (closed : List Bool) → IsTable t → IsGoodNone t closed → (p : ℕ) (rest : List ℕ) →
     is_closed closed p ≡ true → StepsAreAllowed t p rest → is_closed closed (last_place p rest) ≡ true
 closed-end t closed ok good p [] inside leads = inside
@@ -86,6 +88,7 @@ closed-end t closed ok good p (q ∷ rest) inside leads =
     let rises : p < q = Allowed-rises t ok good.sorted p q leads.0 in
     closed-end t closed ok good q rest (good.keeps p q rises leads.0 inside) leads.1
 
+-- the table of a good certificate of no cut has no plan
 pub no_plan_from_good : (t : Table) (closed : List Bool) → IsTable t → IsGoodNone t closed → HasNoPlan t
 no_plan_from_good t closed ok good [] is_plan = is_plan
 no_plan_from_good t closed ok good (p ∷ rest) is_plan =

@@ -13,7 +13,7 @@ pub data ClaimData : Type 0 where
   CutClaim : (total : ℕ) (plan : List ℕ) (prices : List (Option ℕ)) → ClaimData
   NoneClaim : (closed : List Bool) → ClaimData
 
--- a certificate
+-- a certificate: a table and a claim over it
 pub record CertificateData : Type 0 where
   pub table : Table
   pub shown : ClaimData
@@ -74,7 +74,8 @@ pub record HasEqualCosts (t : Table) (total : ℕ) (plan : List ℕ) (prices : L
   pub paid : plan_cost t plan ≡ total
   pub priced : price_at prices (length t.places - 1) ≡ Some total
 
--- a good certificate of a cut
+-- A certificate of a cut is good: the table is sorted, the plan is one and costs what is printed, the first price is 0, and every
+-- step respects the prices.
 pub record IsGoodCut (t : Table) (total : ℕ) (plan : List ℕ) (prices : List (Option ℕ)) : Type 0 where
   pub sorted : IsSorted t
   pub is_plan : IsPlan t plan
@@ -82,7 +83,7 @@ pub record IsGoodCut (t : Table) (total : ℕ) (plan : List ℕ) (prices : List 
   pub start : price_at prices 0 ≡ Some 0
   pub keeps : (p q : ℕ) → CutKeepsPrices t prices p q
 
--- a good certificate of no cut
+-- A certificate of no cut is good: the table is sorted, the closed set has the first place and not the last, and no step leaves it.
 pub record IsGoodNone (t : Table) (closed : List Bool) : Type 0 where
   pub sorted : IsSorted t
   pub start : is_closed closed 0 ≡ true
@@ -94,6 +95,6 @@ abbrev pub IsGoodOver : Table → ClaimData → Type 0
 IsGoodOver t (CutClaim total plan prices) = IsGoodCut t total plan prices
 IsGoodOver t (NoneClaim closed) = IsGoodNone t closed
 
--- a good certificate
+-- a certificate is good: its claim is good over its table
 abbrev pub IsGood : CertificateData → Type 0
 IsGood c = IsGoodOver c.table c.shown

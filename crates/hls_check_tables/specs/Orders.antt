@@ -5,7 +5,7 @@ use Rattle.hls_check_tables.specs.declared.spot.Spot.{Spot}
 use Rattle.hls_check_tables.specs.Tables.{Table, spot_in, place_at}
 use Rattle.hls_check_tables.specs.Steps.{length_between}
 
--- the fragment before ends at or before the start, and the gap count doesn't decrease
+-- a spot is in order: the fragment before it ends at or before its start, and the gap count doesn't decrease
 pub record IsSpotInOrder (spot : Spot) : Type 0 where
   pub ends : spot.prev_end ≤ spot.start
   pub runs : spot.run_in ≤ spot.run_out
@@ -38,7 +38,7 @@ abbrev pub AreRising : ℕ → List (List Spot) → Type 0
 AreRising renditions places =
     (p : ℕ) → p + 1 < length places → IsRising renditions (place_at places p) (place_at places (p + 1))
 
--- the order of common places
+-- places are in the order of common places: the checker's order, and neither ends nor gap counts decrease
 pub record AreOrderly (renditions : ℕ) (places : List (List Spot)) : Type 0 where
   pub sorted : AreSorted renditions places
   pub rising : AreRising renditions places
@@ -47,13 +47,13 @@ pub record AreOrderly (renditions : ℕ) (places : List (List Spot)) : Type 0 wh
 abbrev pub IsOrderly : Table → Type 0
 IsOrderly t = AreOrderly t.renditions t.places
 
--- the first place that is out of order
+-- place p is the first that is out of order
 pub record IsFirstUnsorted (t : Table) (p : ℕ) : Type 0 where
   pub in_range : p < length t.places
   pub unsorted : IsInOrder t.renditions t.places p → ⊥
   pub sorted_before : (before : ℕ) → before < p → IsInOrder t.renditions t.places before
 
--- some rendition has a gap after place p and before place q's unit
+-- some rendition has a gap between the first unit after one place and the last unit before another
 pub record IsPastGap (from to : List Spot) : Type 0 where
   pub rendition : ℕ
   pub in_range : rendition < length from

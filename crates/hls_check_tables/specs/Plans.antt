@@ -13,7 +13,7 @@ abbrev pub last_place : ℕ → List ℕ → ℕ
 last_place p [] = p
 last_place p (q ∷ rest) = last_place q rest
 
--- a plan begins with the first place and ends with the last
+-- a plan begins with the table's first place and ends with its last
 abbrev pub HasEnds : Table → List ℕ → Type 0
 HasEnds t [] = ⊥
 HasEnds t (p ∷ rest) = (p ≡ 0) × (last_place p rest ≡ length t.places - 1)
@@ -23,21 +23,21 @@ abbrev pub cost_from : Table → ℕ → List ℕ → ℕ
 cost_from t p [] = 0
 cost_from t p (q ∷ rest) = cost t p q + cost_from t q rest
 
--- from the first place to the last by allowed steps
+-- a plan leads from the first place to the last by allowed steps
 abbrev pub IsPlan : Table → List ℕ → Type 0
 IsPlan t [] = ⊥
 IsPlan t (p ∷ rest) = (p ≡ 0) × (last_place p rest ≡ length t.places - 1) × StepsAreAllowed t p rest
 
--- the sum of its steps' costs
+-- the cost of a plan: the sum of its steps' costs
 abbrev pub plan_cost : Table → List ℕ → ℕ
 plan_cost t [] = 0
 plan_cost t (p ∷ rest) = cost_from t p rest
 
--- no plan of the table costs less
+-- a plan is optimal: no plan of the table costs less
 pub record IsLeast (t : Table) (plan : List ℕ) : Type 0 where
   pub is_plan : IsPlan t plan
   pub least : (other : List ℕ) → IsPlan t other → plan_cost t plan ≤ plan_cost t other
 
--- the table can't be cut
+-- no list of places is a plan of the table, so it can't be cut
 abbrev pub HasNoPlan : Table → Type 0
 HasNoPlan t = (plan : List ℕ) → IsPlan t plan → ⊥

@@ -14,39 +14,39 @@ pub record IsSpotStep (target : ℕ) (from to : Spot) : Type 0 where
   pub forward : from.start < to.prev_end
   pub fits : Fits (to.prev_end - from.start) target
 
--- the same in each of the renditions
+-- one segment can span from a place to another in each rendition
 abbrev pub IsStep : ℕ → ℕ → List Spot → List Spot → Type 0
 IsStep target renditions from to =
     (r : ℕ) → r < renditions → IsSpotStep target (spot_in from r) (spot_in to r)
 
--- the same between two places of the same renditions
+-- one segment can span between two places, which have the same number of renditions
 pub record IsPlaceStep (target : ℕ) (from to : List Spot) : Type 0 where
   pub same : length to ≡ length from
   pub step : IsStep target (length from) from to
 
--- an allowed step of a table, from place p to place q
+-- the step from place p to place q of a table is allowed
 pub record Allowed (t : Table) (p q : ℕ) : Type 0 where
   pub from : p < length t.places
   pub to : q < length t.places
   pub step : IsStep t.goal.target t.renditions (place_at t.places p) (place_at t.places q)
 
--- the length in rendition 0, in microseconds
+-- the length of a segment in rendition 0, in microseconds
 abbrev pub length_between : List Spot → List Spot → ℕ
 length_between from to = (spot_in to 0).prev_end - (spot_in from 0).start
 
--- the deviation of that length from the preferred one
+-- the deviation of a segment's length in rendition 0 from the preferred one, in microseconds
 abbrev pub deviation : ℕ → List Spot → List Spot → ℕ
 deviation preferred from to = abs_diff (length_between from to) preferred
 
--- plus the rule's charge for a segment
+-- the cost of a step, in microseconds: its deviation, plus the rule's charge for a segment
 abbrev pub step_cost : Goal → List Spot → List Spot → ℕ
 step_cost goal from to = deviation goal.preferred from to + charge_of goal.rule
 
--- the cost of a table's step
+-- the cost of the step from place p to place q of a table, in microseconds
 abbrev pub cost : Table → ℕ → ℕ → ℕ
 cost t p q = step_cost t.goal (place_at t.places p) (place_at t.places q)
 
--- no allowed step of a table costs more, in microseconds: its length fits a target of at most an hour after rounding, and the charge for a
--- segment is at most an hour
+-- The maximum cost of an allowed step, in microseconds: its length fits a target of at most an hour after rounding, and the charge
+-- for a segment is at most an hour.
 abbrev pub cost_limit : ℕ
 cost_limit = 7200499999

@@ -12,7 +12,7 @@ pub record Table : Type 0 where
   pub renditions : ℕ
   pub places : List (List Spot)
 
--- the default if a place has no such spot
+-- a spot of zeros, the default for a place that has no such spot
 abbrev pub no_spot : Spot
 no_spot = record { fragment = 0; prev_end = 0; start = 0; run_in = 0; run_out = 0 }
 
@@ -24,7 +24,7 @@ spot_in place r = slice_index_or place r no_spot
 abbrev pub place_at : List (List Spot) → ℕ → List Spot
 place_at places p = slice_index_or places p []
 
--- each number is in range
+-- each number of a spot is in its range
 pub record IsSpotInRange (spot : Spot) : Type 0 where
   pub fragment_small : spot.fragment < 2 ^ 53
   pub prev_end_small : spot.prev_end < 2 ^ 53
@@ -47,33 +47,37 @@ abbrev pub rule_of : Option ℕ → CostRule
 rule_of None = Deviation
 rule_of (Some charge) = Charged charge
 
--- the maximum target, in seconds, and the maximum preferred length and charge, in microseconds
+-- the maximum target, in seconds
 abbrev pub target_limit : ℕ
 target_limit = 3600
 
+-- the maximum preferred length of a segment, in microseconds
 abbrev pub preferred_limit : ℕ
 preferred_limit = 3600000000
 
+-- the maximum charge for each segment, in microseconds
 abbrev pub charge_limit : ℕ
 charge_limit = 3600000000
 
--- the ranges of a goal: the maximum and preferred length of a segment, and the rule for its cost
+-- the target, the preferred length and the charge of a goal are at most an hour each, and the first two are above 0
 pub record IsGoal (goal : Goal) : Type 0 where
   pub target : (1 ≤ goal.target) × (goal.target ≤ target_limit)
   pub preferred : (1 ≤ goal.preferred) × (goal.preferred ≤ preferred_limit)
   pub charge : charge_of goal.rule ≤ charge_limit
 
+-- the goal of this target, preferred length and rule
 abbrev pub goal_of : ℕ → ℕ → CostRule → Goal
 goal_of target preferred rule = record { target = target; preferred = preferred; rule = rule }
 
--- the maximum numbers of renditions and of places
+-- the maximum number of renditions of a table
 abbrev pub rendition_limit : ℕ
 rendition_limit = 16
 
+-- the maximum number of places of a table
 abbrev pub place_limit : ℕ
 place_limit = 16384
 
--- the ranges of a table
+-- what a table has is in its ranges: its goal, its numbers of renditions and places, and each place
 pub record IsTable (t : Table) : Type 0 where
   pub goal : IsGoal t.goal
   pub renditions : (1 ≤ t.renditions) × (t.renditions ≤ rendition_limit)

@@ -13,6 +13,7 @@ use Rattle.hls_live.specs.declared.prefix_sums.PrefixSums.{PrefixSums}
 use Rattle.hls_live.specs.PrefixSums.{AreExtendedLengths, IsSumsTo, AreSums, last_of, lengths_of, marks_of, IsSumsAfter}
 use Rattle.hls_check_tables.specs.Steps.{cost_limit}
 
+-- a list has an element at each number below its length
 pub at-there : {A : Type 0} (xs : List A) (m : ℕ) → m < length xs → (x : A) × (slice_get xs m ≡ Some x)
 at-there [] m within = absurd (omega (arith, within))
 at-there (x ∷ xs) zero within = (x, refl)
@@ -25,12 +26,13 @@ no-items : {A : Type 0} (xs : List A) → length xs ≡ 0 → xs ≡ []
 no-items [] count = refl
 no-items (x ∷ xs) count = absurd (omega (arith, count))
 
--- the last one's number
+-- the sums at the last number are the last ones
 last-at : (sums : List PrefixSums) (m : ℕ) (t : PrefixSums) → length sums ≡ suc m → slice_get sums m ≡ Some t → last_of sums ≡ Some t
 last-at sums m t count at =
     let number : length sums - 1 ≡ m = omega (arith, count) in
     ap (slice_get sums) number ∙ at
 
+-- without segments there are no sums
 pub sums-none : (first breaks renditions : ℕ) → AreSums first breaks renditions [] []
 sums-none first breaks renditions = record {
   count = refl;
@@ -38,7 +40,7 @@ sums-none first breaks renditions = record {
   rest = λ k last r s t at also count within. absurd (omega (arith, count));
 }
 
--- one more segment
+-- with one more segment, each length is at most the maximum for one segment more
 longer-small : (before : List ℕ) (segment : LiveSegment) (lengths : List ℕ) (n : ℕ) → AreExtendedLengths before segment lengths →
     ((r : ℕ) → get_or before r 0 ≤ n * cost_limit) → ((r : ℕ) → length_in r segment ≤ cost_limit) → (r : ℕ) →
     get_or lengths r 0 ≤ suc n * cost_limit
@@ -49,6 +51,7 @@ longer-small before segment lengths n longer past short r =
       | inr outside ↦ omega (arith, get_or_past lengths r 0 (omega (arith, longer.count, outside)))
     ]
 
+-- a length that is missing is 0, so it fits each bound
 no-lengths : (r n : ℕ) → get_or {A = ℕ} [] r 0 ≤ n * cost_limit
 no-lengths r n = omega arith
 
@@ -57,6 +60,7 @@ pub record IsLast (first breaks renditions : ℕ) (segments : List LiveSegment) 
   pub marks : marks_of breaks (last_of sums) ≡ breaks + marks_in (length segments) segments
   pub small : (r : ℕ) → get_or (lengths_of (last_of sums)) r 0 ≤ (first + length segments) * cost_limit
 
+-- without segments, the sums at the last one are the removed marks and no lengths
 no-segments : (first breaks renditions : ℕ) (segments : List LiveSegment) (sums : List PrefixSums) → segments ≡ [] → sums ≡ [] →
     IsLast first breaks renditions segments sums
 no-segments first breaks renditions segments sums no_segment no_sums = rw (no_segment, no_sums) (record {
@@ -64,6 +68,7 @@ no-segments first breaks renditions segments sums no_segment no_sums = rw (no_se
   small = λ r. omega arith;
 })
 
+-- the sums at the last of n segments count their marks and the removed ones, and each length fits its bound
 is-last : (first breaks renditions : ℕ) (segments : List LiveSegment) (sums : List PrefixSums) (n : ℕ) → n ≡ length segments →
     AreSums first breaks renditions segments sums → IsLast first breaks renditions segments sums
 is-last first breaks renditions segments sums zero n_is are =
@@ -77,10 +82,12 @@ is-last first breaks renditions segments sums (suc m) n_is are =
       small = λ r. omega (arith, ap (λ (o : Option PrefixSums). get_or (lengths_of o) r 0) is, to.small r, n_is);
     }
 
+-- the sums at the last segment count all marks, and each length is at most the maximum for the segments so far
 pub last-known : (first breaks renditions : ℕ) (segments : List LiveSegment) (sums : List PrefixSums) →
     AreSums first breaks renditions segments sums → IsLast first breaks renditions segments sums
 last-known first breaks renditions segments sums are = is-last first breaks renditions segments sums (length segments) refl are
 
+-- one more segment adds its length to what remains after the first n
 left-append : (r n : ℕ) (segments : List LiveSegment) (segment : LiveSegment) → n ≤ length segments →
     remaining_length r (segments ++ segment ∷ []) n ≡ remaining_length r segments n + length_in r segment
 left-append r n segments segment few =
@@ -90,6 +97,7 @@ left-append r n segments segment few =
     let one : sum_by (length_in r) (segment ∷ []) ≡ length_in r segment = zero-add _ in
     parts ∙ (both ∙ ap (λ (x : ℕ). sum_by (length_in r) (drop n segments) + x) one)
 
+-- one more segment adds its mark to the marks of all segments
 marks-all : (segments : List LiveSegment) (segment : LiveSegment) →
     marks_in (suc (length segments)) (segments ++ segment ∷ []) ≡ marks_in (length segments) segments + cond segment.mark 1 0
 marks-all segments segment =
@@ -104,9 +112,11 @@ marks-all segments segment =
     all ∙ (both ∙ (ap (λ (x : ℕ). sum_by (λ (y : LiveSegment). cond (is_marked y) 1 0) segments + x) one
     ∙ ap (λ (x : ℕ). x + cond segment.mark 1 0) (sym before)))
 
+-- nothing remains after all segments
 left-none : (r : ℕ) (segments : List LiveSegment) (n : ℕ) → n ≡ length segments → remaining_length r segments n ≡ 0
 left-none r segments n n_is = ap (λ (m : ℕ). remaining_length r segments m) n_is ∙ ap (sum_by (length_in r)) (drop-length segments)
 
+-- with one more segment and its sums, each segment's sums still count the marks and bound the lengths up to it
 pushed-each : (first breaks renditions : ℕ) (segments : List LiveSegment) (sums : List PrefixSums) (segment : LiveSegment) (next : PrefixSums) →
     AreSums first breaks renditions segments sums → IsSumsAfter breaks sums segment next → length segment.from.spots ≡ renditions →
     ((r : ℕ) → length_in r segment ≤ cost_limit) → (k : ℕ) (s : PrefixSums) → slice_get (sums ++ next ∷ []) k ≡ Some s →
@@ -129,6 +139,7 @@ pushed-each first breaks renditions segments sums segment next are is same short
           })
     ]
 
+-- a segment's lengths plus what remains after it, the new segment included, are the lengths in the new segment's sums
 rest-known : (first breaks renditions : ℕ) (segments : List LiveSegment) (sums : List PrefixSums) (segment : LiveSegment) (next : PrefixSums) →
     AreSums first breaks renditions segments sums → IsSumsAfter breaks sums segment next → length segment.from.spots ≡ renditions →
     (k m r : ℕ) (s : PrefixSums) → slice_get sums k ≡ Some s → length segments ≡ suc m → r < renditions →
@@ -141,6 +152,7 @@ rest-known first breaks renditions segments sums segment next are is same k m r 
     ap (λ (o : Option PrefixSums). get_or (lengths_of o) r 0) (last-at sums m last.0 (are.count ∙ count) last.1) in
     omega (arith, known, left-append r (suc k) segments segment few, is.lengths.each r (omega (arith, same, within)), past)
 
+-- with one more segment, a segment's lengths plus what remains after it are still the lengths in the last sums
 pushed-rest : (first breaks renditions : ℕ) (segments : List LiveSegment) (sums : List PrefixSums) (segment : LiveSegment) (next : PrefixSums) →
     AreSums first breaks renditions segments sums → IsSumsAfter breaks sums segment next → length segment.from.spots ≡ renditions →
     (k last r : ℕ) (s t : PrefixSums) → slice_get (sums ++ next ∷ []) k ≡ Some s → slice_get (sums ++ next ∷ []) last ≡ Some t →
@@ -161,6 +173,7 @@ pushed-rest first breaks renditions segments sums segment next are is same k las
       ]
     ]
 
+-- a segment of each rendition that is no longer than the maximum keeps one sum for each segment, if its own is appended
 pub sums-pushed : (first breaks renditions : ℕ) (segments : List LiveSegment) (sums : List PrefixSums) (segment : LiveSegment) (next : PrefixSums) →
     AreSums first breaks renditions segments sums → IsSumsAfter breaks sums segment next → length segment.from.spots ≡ renditions →
     ((r : ℕ) → length_in r segment ≤ cost_limit) → AreSums first breaks renditions (segments ++ segment ∷ []) (sums ++ next ∷ [])
@@ -170,7 +183,7 @@ sums-pushed first breaks renditions segments sums segment next are is same short
   rest = pushed-rest first breaks renditions segments sums segment next are is same;
 }
 
--- without the front
+-- without the first n segments and their sums, the others still have their sums, and n more segments are counted as removed
 pub sums-dropped : (first breaks renditions n : ℕ) (segments : List LiveSegment) (sums : List PrefixSums) → n ≤ length segments →
     AreSums first breaks renditions segments sums →
     AreSums (first + n) (breaks + marks_in n segments) renditions (drop n segments) (drop n sums)

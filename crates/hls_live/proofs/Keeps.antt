@@ -41,7 +41,7 @@ allowed-short line_goal o q target allowed r =
           omega (arith, end)
     ]
 
--- an open place with segments
+-- the sums stay the same for another number of renditions, if there are no segments or the number is the same
 sums-renamed : (first breaks before after : ℕ) (segments : List LiveSegment) (sums : List PrefixSums) →
     (0 < length segments → after ≡ before) → AreSums first breaks before segments sums → AreSums first breaks after segments sums
 sums-renamed first breaks before after [] [] same are = sums-none first breaks after
@@ -50,6 +50,8 @@ sums-renamed first breaks before after (x ∷ segments) sums same are =
     let is : after ≡ before = same (omega arith) in
     subst (λ (n : ℕ). AreSums first breaks n (x ∷ segments) sums) (sym is) are
 
+-- a sound line is still sound with another open place and best place, if the open one has spots for the line's renditions and the best one is within
+-- reach
 pub opened-sound : (i : Inside) (kept : KeptSegments) (start : SegmentStart) (best : Option Place) →
     IsSoundLine i → kept ≡ i.kept → 0 < length start.place.spots →
     (0 < length i.kept.segments.items → length start.place.spots ≡ renditions_of i.segment_start) →
@@ -73,7 +75,7 @@ opened-sound i kept start best sound kept_is some same reached = rw (kept_is) (r
       subst (λ (x : SegmentStart). is_allowed i.line_goal x.place b ≡ true) is (reached b best_is);
 })
 
--- other segments
+-- a sound line is still sound with other kept segments that fit its renditions
 pub held-sound : (i : Inside) (kept : KeptSegments) (segment_start : Option SegmentStart) (best : Option Place) → IsSoundLine i →
     AreKept (renditions_of i.segment_start) kept → (i.segment_start ≡ None → kept.segments.items ≡ []) → segment_start ≡ i.segment_start → best ≡ i.best →
     IsSoundLine (record { line_goal = i.line_goal; kept = kept; segment_start = segment_start; best = best })
@@ -90,7 +92,7 @@ held-sound i kept segment_start best sound are none open_is best_is = rw (open_i
 pub are-aligned : (renditions : ℕ) (k : KeptSegments) → AreKept renditions k → AreAligned k
 are-aligned renditions k are = record { first = are.first; count = are.sums.count }
 
--- one more segment
+-- kept segments still fit the renditions with one more segment, which is no longer than the maximum in any of them
 pub with-kept : (renditions : ℕ) (k after : KeptSegments) (segment : LiveSegment) → AreKept renditions k → HasPushedSegment segment k after →
     length segment.from.spots ≡ renditions → ((r : ℕ) → length_in r segment ≤ cost_limit) → AreKept renditions after
 with-kept renditions k after segment are is same short =
@@ -100,6 +102,7 @@ with-kept renditions k after segment are is same short =
       breaks = are.breaks;
     })
 
+-- a sound line is still sound after its open segment is closed at a place within reach, where the next one begins
 pub closed-sound : (i : Inside) (o : SegmentStart) (to : Place) (segment : LiveSegment) (kept : KeptSegments) (start : SegmentStart) →
     IsSoundLine i → i.segment_start ≡ Some o → is_allowed i.line_goal o.place to ≡ true → segment.from ≡ o.place → segment.to ≡ to →
     HasPushedSegment segment i.kept kept → start ≡ start_at to → IsSoundLine (record { line_goal = i.line_goal; kept = kept; segment_start = Some start; best = None })
@@ -129,20 +132,21 @@ marks-few n segments few =
     let counted : marks_in n segments ≤ length (take n segments) = count_by-le-length (λ (x : LiveSegment). x.mark) (take n segments) in
     omega (arith, counted, length-take-le n segments few)
 
--- the sums before it
+-- while there is room for one more segment, the marks in the last sums are at most the limit of a list
 pub last-few : (renditions : ℕ) (k : KeptSegments) → AreKept renditions k → k.segments.first + length k.segments.items < list_limit →
     marks_of k.breaks (last_of k.sums.items) ≤ list_limit
 last-few renditions k are room =
     let known = last-known k.segments.first k.breaks renditions k.segments.items k.sums.items are.sums in
     omega (arith, known.marks, marks-few (length k.segments.items) k.segments.items (omega arith), are.breaks, room)
 
+-- while there is room for one more segment, each length in the last sums is at most 2^60
 pub last-small : (renditions : ℕ) (k : KeptSegments) → AreKept renditions k → k.segments.first + length k.segments.items < list_limit → (r : ℕ) →
     get_or (lengths_of (last_of k.sums.items)) r 0 ≤ 1152921504606846976
 last-small renditions k are room r =
     let known = last-known k.segments.first k.breaks renditions k.segments.items k.sums.items are.sums in
     omega (arith, known.small r, room)
 
--- the sums at the last of the segments that are removed
+-- removing the first n segments adds their marks to the removed ones
 last-gone : (renditions n : ℕ) (k after : KeptSegments) → AreKept renditions k → 0 < n → n ≤ length k.segments.items → HasDroppedSegments n k after →
     after.breaks ≡ k.breaks + marks_in n k.segments.items
 last-gone renditions n k after are some few is =
@@ -152,7 +156,7 @@ last-gone renditions n k after are some few is =
     let to = are.sums.each m last.0 last.1 in
     is.breaks ∙ (ap (marks_of 0) last.1 ∙ (to.marks ∙ ap (λ (j : ℕ). k.breaks + marks_in j k.segments.items) n_is))
 
--- some segments fewer
+-- kept segments still fit the renditions without the first n
 pub without-kept : (renditions n : ℕ) (k after : KeptSegments) → AreKept renditions k → 0 < n → n ≤ length k.segments.items →
     HasDroppedSegments n k after → AreKept renditions after
 without-kept renditions n k after are some few is =
@@ -170,7 +174,7 @@ without-kept renditions n k after are some few is =
       breaks = omega (arith, marks-few n k.segments.items few, are.breaks);
     })
 
--- the line without some of its segments
+-- a line whose first n segments were removed is the defined line without them
 pub slid-is : (i : Inside) (n : ℕ) (after : KeptSegments) → IsSoundLine i → 0 < n → n ≤ length i.kept.segments.items → HasDroppedSegments n i.kept after →
     with_kept (model_of i) after ≡ without_front n (model_of i)
 slid-is i n after sound some few is =
@@ -196,12 +200,13 @@ left-progress renditions k r n at last s t are some few within at_is s_at last_i
     subst (λ (j : ℕ). get_or s.lengths.items r 0 + remaining_length r k.segments.items j ≡ get_or t.lengths.items r 0) n_is
     (are.sums.rest at last r s t s_at t_at (omega (arith, last_is, some, few)) within)
 
--- a test of each number below a bound, one more, and one that fails
+-- a test that holds of each number below r, and of r, holds of each number below r + 1
 pub each-more : (test : ℕ → Bool) (r : ℕ) → each_below r test ≡ true → test r ≡ true → each_below (r + 1) test ≡ true
 each-more test r before here =
     let next : suc r ≡ r + 1 = omega arith in
     subst (λ (n : ℕ). each_below n test ≡ true) next (and_from (each_below r test) (test r) before here)
 
+-- a test that fails at a number below a bound doesn't hold of each number below it
 pub each-fails : (test : ℕ → Bool) (bound r : ℕ) → r < bound → test r ≡ false → each_below bound test ≡ false
 each-fails test zero r h fails = absurd (omega arith)
 each-fails test (suc bound) r h fails =
@@ -211,6 +216,7 @@ each-fails test (suc bound) r h fails =
       | inr here ↦ and_right (each_below bound test) (test bound) (subst (λ (n : ℕ). test n ≡ false) here fails)
     ]
 
+-- a test that holds of each number below a bound holds of any one of them
 pub each-at : (test : ℕ → Bool) (bound r : ℕ) → r < bound → each_below bound test ≡ true → test r ≡ true
 each-at test zero r h all = absurd (omega arith)
 each-at test (suc bound) r h all =

@@ -16,7 +16,7 @@ use Rattle.hls_live.specs.declared.place_fit.PlaceFit.TheVariants.{Skipped, TooF
 use Rattle.hls_live.specs.PlaceFit.{fit_of}
 use Rattle.hls_live.specs.Advances.{advance_from, advance_once, with_progress}
 
--- the meaning of each class
+-- the class of place q says whether it is later than the open place, whether a segment may span to it, and whether that is long enough
 pub record IsReach (line_goal : LineGoal) (o q : Place) (reach : PlaceFit) : Type 0 where
   pub skipped : reach ≡ Skipped → is_later_place o q ≡ false
   pub past : (reach ≡ Skipped → ⊥) → is_later_place o q ≡ true
@@ -24,6 +24,7 @@ pub record IsReach (line_goal : LineGoal) (o q : Place) (reach : PlaceFit) : Typ
   pub further : reach ≡ Reachable → (is_allowed line_goal o q ≡ true) × (is_long_enough line_goal o q ≡ false)
   pub enough : reach ≡ LongEnough → (is_allowed line_goal o q ≡ true) × (is_long_enough line_goal o q ≡ true)
 
+-- the computed class of a place has its meaning
 pub reach-is : (line_goal : LineGoal) (o q : Place) → IsReach line_goal o q (fit_of line_goal o q)
 reach-is line_goal o q =
     elim (cases_Bool (is_later_place o q)) [
@@ -71,18 +72,20 @@ reach-is line_goal o q =
       ]
     ]
 
--- a place added to a line, without trying it again after the best place
+-- a place that is added once to a line with an open place is tried, and restarts the line if it is out of reach
 open-progress : (live : Live) (o : SegmentStart) (q : Place) → live.progress.line.segment_start ≡ Some o →
     advance_once live q ≡ progress_to live.line_goal live.removed live.progress.line.segments o live.progress.best q
     (progress_with live.progress.line.segments (restart_at q) None)
 open-progress live o q at =
     ap (λ (x : Option SegmentStart). advance_from live.line_goal live.removed live.progress.line.segments x live.progress.best q) at
 
+-- the first place of all becomes the open place
 pub progress-first : (live : Live) (q : Place) → live.progress.line.segment_start ≡ None →
     with_progress live (advance_once live q) ≡ with_progress live (progress_with live.progress.line.segments (start_at q) None)
 progress-first live q at =
     ap (λ (x : Option SegmentStart). with_progress live (advance_from live.line_goal live.removed live.progress.line.segments x live.progress.best q)) at
 
+-- a place that isn't later than the open one leaves the line as it is
 pub progress-skipped : (live : Live) (o : SegmentStart) (q : Place) → live.progress.line.segment_start ≡ Some o → is_later_place o.place q ≡ false →
     with_progress live (advance_once live q) ≡ live
 progress-skipped live o q at past =
@@ -90,6 +93,7 @@ progress-skipped live o q at past =
     ∙ (tried-skipped live.line_goal live.removed live.progress.line.segments o live.progress.best q _ past
     ∙ ap (λ (x : Option SegmentStart). record { line = record { segments = live.progress.line.segments; segment_start = x }; best = live.progress.best }) (sym at)))
 
+-- a later place to which no segment may span restarts the line
 pub progress-far : (live : Live) (o : SegmentStart) (q : Place) → live.progress.line.segment_start ≡ Some o → is_later_place o.place q ≡ true →
     is_allowed live.line_goal o.place q ≡ false →
     with_progress live (advance_once live q) ≡ with_progress live (progress_with live.progress.line.segments (restart_at q) None)
@@ -97,6 +101,7 @@ progress-far live o q at past far =
     ap (with_progress live) (open-progress live o q at
     ∙ tried-far live.line_goal live.removed live.progress.line.segments o live.progress.best q _ past far)
 
+-- a later place within reach where the segment is too short becomes the best place
 pub progress-further : (live : Live) (o : SegmentStart) (q : Place) → live.progress.line.segment_start ≡ Some o → is_later_place o.place q ≡ true →
     is_allowed live.line_goal o.place q ≡ true → is_long_enough live.line_goal o.place q ≡ false →
     with_progress live (advance_once live q) ≡ with_progress live (progress_with live.progress.line.segments o (Some q))
@@ -104,6 +109,7 @@ progress-further live o q at past allowed further =
     ap (with_progress live) (open-progress live o q at
     ∙ tried-further live.line_goal live.removed live.progress.line.segments o live.progress.best q _ past allowed further)
 
+-- a later place within reach where the segment is long enough closes it
 pub progress-enough : (live : Live) (o : SegmentStart) (q : Place) → live.progress.line.segment_start ≡ Some o → is_later_place o.place q ≡ true →
     is_allowed live.line_goal o.place q ≡ true → is_long_enough live.line_goal o.place q ≡ true →
     with_progress live (advance_once live q)
@@ -112,7 +118,7 @@ progress-enough live o q at past allowed enough =
     ap (with_progress live) (open-progress live o q at
     ∙ tried-enough live.line_goal live.removed live.progress.line.segments o live.progress.best q _ past allowed enough)
 
--- the whole step
+-- the live line after a place is the line with the progress after that place
 moves-as : (live : Live) (segment_start : Option SegmentStart) (best : Option Place) (q : Place) → live.progress.line.segment_start ≡ segment_start →
     live.progress.best ≡ best →
     live_after live q ≡ with_progress live (progress_from live.line_goal live.removed live.progress.line.segments segment_start best q)
@@ -120,6 +126,7 @@ moves-as live segment_start best q at best_is =
     ap (λ (x : Option SegmentStart). with_progress live (progress_from live.line_goal live.removed live.progress.line.segments x live.progress.best q)) at
     ∙ ap (λ (x : Option Place). with_progress live (progress_from live.line_goal live.removed live.progress.line.segments segment_start x q)) best_is
 
+-- adding the first place of all once is adding it
 pub moved-first : (live : Live) (q : Place) → live.progress.line.segment_start ≡ None → live.progress.best ≡ None →
     with_progress live (advance_once live q) ≡ live_after live q
 moved-first live q at none =
@@ -127,12 +134,14 @@ moved-first live q at none =
     ∙ sym (moves-as live None None q at none
     ∙ ap (with_progress live) (advanced-first live.line_goal live.removed live.progress.line.segments None q))
 
+-- adding a place to a line with an open place tries it; if it is out of reach, it is tried again from the best place, or restarts the line
 moved-open : (live : Live) (o : SegmentStart) (best : Option Place) (q : Place) → live.progress.line.segment_start ≡ Some o → live.progress.best ≡ best →
     live_after live q ≡ with_progress live (progress_to live.line_goal live.removed live.progress.line.segments o best q
     (progress_restarted_at live.line_goal live.removed live.progress.line.segments o best q))
 unfolding progress_from
 moved-open live o best q at best_is = moves-as live (Some o) best q at best_is
 
+-- without a best place, adding a place once is adding it
 pub moved-unbested : (live : Live) (o : SegmentStart) (q : Place) → live.progress.line.segment_start ≡ Some o → live.progress.best ≡ None →
     with_progress live (advance_once live q) ≡ live_after live q
 moved-unbested live o q at none =
@@ -141,7 +150,7 @@ moved-unbested live o q at none =
     ∙ ap (progress_to live.line_goal live.removed live.progress.line.segments o None q) (sym (stopped-restarted live.line_goal live.removed live.progress.line.segments o q))))
     ∙ sym (moved-open live o None q at none)
 
--- the result for a place out of reach is used only there
+-- if a place isn't out of reach, the result for such a place doesn't matter
 same-stopped : (line_goal : LineGoal) (removed : ℕ) (segments : List LiveSegment) (o : SegmentStart) (best : Option Place) (q : Place) (s t : LineProgress) →
     (is_later_place o.place q && not (is_allowed line_goal o.place q)) ≡ false →
     progress_to line_goal removed segments o best q s ≡ progress_to line_goal removed segments o best q t
@@ -162,6 +171,7 @@ same-stopped line_goal removed segments o best q s t near =
       ]
     ]
 
+-- a place that isn't out of reach is added by trying it once
 pub moved-near : (live : Live) (o : SegmentStart) (q : Place) → live.progress.line.segment_start ≡ Some o →
     (is_later_place o.place q && not (is_allowed live.line_goal o.place q)) ≡ false → with_progress live (advance_once live q) ≡ live_after live q
 moved-near live o q at near =
@@ -169,15 +179,17 @@ moved-near live o q at near =
     ∙ same-stopped live.line_goal live.removed live.progress.line.segments o live.progress.best q _ _ near)
     ∙ sym (moved-open live o live.progress.best q at refl)
 
--- after a segment was closed at the best place, the place is tried again
+-- the live line after its open segment was closed at the best place b
 abbrev pub closed_to : Live → SegmentStart → Place → Live
 closed_to live o b = with_progress live (progress_with (closed_with live.removed live.progress.line.segments o b) (start_at b) None)
 
+-- a place that is out of reach is later, and no segment may span to it
 far-parts : (a b : Bool) → (a && not b) ≡ true → (a ≡ true) × (b ≡ false)
 far-parts true false is = (refl, refl)
 far-parts true true is = absurd (cc)
 far-parts false b is = absurd (cc)
 
+-- a place that is out of reach is added by closing the segment at the best place, and then adding the place once
 pub moved-twice : (live : Live) (o : SegmentStart) (b q : Place) → live.progress.line.segment_start ≡ Some o → live.progress.best ≡ Some b →
     (is_later_place o.place q && not (is_allowed live.line_goal o.place q)) ≡ true →
     with_progress (closed_to live o b) (advance_once (closed_to live o b) q) ≡ live_after live q

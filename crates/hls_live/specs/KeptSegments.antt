@@ -11,13 +11,13 @@ pub record AreAligned (k : KeptSegments) : Type 0 where
   pub first : k.sums.first ≡ k.segments.first
   pub count : length k.sums.items ≡ length k.segments.items
 
--- without the first n segments
+-- the kept segments without the first n, whose marks are counted as removed
 pub record HasDroppedSegments (n : ℕ) (before after : KeptSegments) : Type 0 where
   pub segments : after.segments ≡ from_number before.segments (before.segments.first + n)
   pub sums : after.sums ≡ from_number before.sums (before.segments.first + n)
   pub breaks : after.breaks ≡ marks_of 0 (slice_get before.sums.items (n - 1))
 
--- with one more segment
+-- the kept segments with one more, and its sums
 pub record HasPushedSegment (segment : LiveSegment) (before after : KeptSegments) : Type 0 where
   pub next : PrefixSums
   pub is : IsSumsAfter before.breaks before.sums.items segment next

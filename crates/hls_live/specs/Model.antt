@@ -10,6 +10,7 @@ use Rattle.hls_live.specs.declared.kept_segments.KeptSegments.{KeptSegments}
 use Rattle.hls_live.specs.PrefixSums.{AreSums}
 use Rattle.hls_check_tables.specs.Tables.{target_limit}
 
+-- a live line as contracts see it: its goal, segments, open place and best place, and the numbers of removed segments and marks
 abbrev pub model_of : Inside → Live
 model_of i = record {
   line_goal = i.line_goal;
@@ -24,6 +25,7 @@ pub record AreKept (renditions : ℕ) (k : KeptSegments) : Type 0 where
   pub sums : AreSums k.segments.first k.breaks renditions k.segments.items k.sums.items
   pub breaks : k.breaks ≤ k.segments.first
 
+-- a line's invariant: its segments fit the open place; without one there is no segment and no best place; a segment may reach the best place
 pub record IsSoundLine (i : Inside) : Type 0 where
   pub target : i.line_goal.target ≤ target_limit
   pub kept : AreKept (renditions_of i.segment_start) i.kept

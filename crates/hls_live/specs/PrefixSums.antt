@@ -5,7 +5,7 @@ use Rattle.hls_places_laws.specs.Line.Lengths.{length_in, remaining_length, mark
 use Rattle.hls_live.specs.declared.prefix_sums.PrefixSums.{PrefixSums}
 use Rattle.hls_check_tables.specs.Steps.{cost_limit}
 
--- lengths with one more segment in each rendition
+-- the length in each rendition with one more segment added to the sums before
 pub record AreExtendedLengths (before : List ℕ) (segment : LiveSegment) (lengths : List ℕ) : Type 0 where
   pub count : length lengths ≡ length segment.from.spots
   pub each : (r : ℕ) → r < length segment.from.spots → slice_index lengths r ≡ slice_index before r + length_in r segment
@@ -16,7 +16,7 @@ pub record IsSumsTo (first breaks renditions : ℕ) (segments : List LiveSegment
   pub marks : sums.marks ≡ breaks + marks_in (suc k) segments
   pub small : (r : ℕ) → slice_index sums.lengths.items r ≤ (first + suc k) * cost_limit
 
--- one for each kept segment; the rest after a segment is the difference to the last one
+-- one sum for each kept segment; the length that remains after a segment is the difference to the last sum
 pub record AreSums (first breaks renditions : ℕ) (segments : List LiveSegment) (sums : List PrefixSums) : Type 0 where
   pub count : length sums ≡ length segments
   pub each : (k : ℕ) (s : PrefixSums) → slice_get sums k ≡ Some s → IsSumsTo first breaks renditions segments k s
@@ -28,15 +28,17 @@ pub record AreSums (first breaks renditions : ℕ) (segments : List LiveSegment)
 abbrev pub last_of : List PrefixSums → Option PrefixSums
 last_of sums = slice_get sums (length sums - 1)
 
+-- the lengths of the sums in each rendition, none before the first segment
 abbrev pub lengths_of : Option PrefixSums → List ℕ
 lengths_of None = []
 lengths_of (Some s) = s.lengths.items
 
+-- the number of marks of the sums, or the number of removed marks before the first segment
 abbrev pub marks_of : ℕ → Option PrefixSums → ℕ
 marks_of breaks None = breaks
 marks_of breaks (Some s) = s.marks
 
--- with one more segment
+-- the sums with one more segment: its lengths and its mark are added
 pub record IsNextSums (before : List ℕ) (marked : ℕ) (segment : LiveSegment) (next : PrefixSums) : Type 0 where
   pub lengths : AreExtendedLengths before segment next.lengths.items
   pub marks : next.marks ≡ marked + (if segment.mark then 1 else 0)

@@ -9,11 +9,13 @@ use Rattle.hls_places_laws.specs.declared.place.Place.{Place}
 use Rattle.hls_places_laws.specs.Order.{spots_of, renditions_in}
 use Rattle.hls_places_laws.specs.Programmes.{table_between}
 
+-- the first place's number of spots is the number of renditions of the places
 first-count : {X : Type 0} (f : X → Place) (xs : List X) (d : X) → 0 < length xs →
     length (f (get_or xs 0 d)).spots ≡ renditions_in (map f xs)
 first-count f [] d some = absurd (omega arith)
 first-count f (y ∷ ys) d some = refl
 
+-- the table of the spots of the places with the numbers `from` to `to` is the table between these places
 pub cut_out-is : {X : Type 0} (f : X → Place) (xs : List X) (d : X) (goal : Goal) (from to renditions : ℕ)
     (spots : List (List Spot)) → 0 < length xs → renditions ≡ length (f (get_or xs 0 d)).spots →
     spots ≡ spots_of (map f (take (to + 1 - from) (drop from xs))) →

@@ -5,7 +5,7 @@ use Rattle.hls_media_laws.specs.declared.facts.Facts.{Facts}
 use Rattle.hls_places_laws.specs.Sources.{Source, no_source, source_at, sources_of}
 use Rattle.hls_places.proofs.Cited.{length-sources_of, side-at}
 
--- the first ones, and the next
+-- the first r + 1 renditions of three lists are the first r, and one of the elements number r
 pub next-side : (lists : List (List Facts)) (tolerances : List ℕ) (finished : List Bool) →
     length tolerances ≡ length lists → length finished ≡ length lists → (r : ℕ) → r < length lists →
     take (r + 1) (sources_of lists tolerances finished)

@@ -10,10 +10,11 @@ use Rattle.hls_places_laws.specs.Order.{ArePlaces}
 use Rattle.hls_places.specs.Searches.{AreInOrder}
 use Rattle.hls_check_tables.specs.Tables.{rendition_limit}
 
+-- a recording's units are in time order
 pub timeline-of : (r : RecordingData) → IsRecorded r → IsTimeline r.facts
 timeline-of = units_are_in_time
 
--- so the common places of the renditions are in order
+-- if the units of 1 to 16 renditions are in time order and rendition 0 has no tolerance, their common places are in order
 pub places-in_order : {X : Type 0} (f : X → List Facts) (xs : List X) (tolerances : List ℕ) (finished : List Bool) →
     1 ≤ length xs → length xs ≤ rendition_limit → length tolerances ≡ length xs → length finished ≡ length xs → get_or tolerances 0 0 ≡ 0 →
     AreInOrder (sources_of (map f xs) tolerances finished) → ArePlaces (places_of (sources_of (map f xs) tolerances finished))

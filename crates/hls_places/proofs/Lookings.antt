@@ -22,17 +22,18 @@ pub record IsLooking (sources : List Source) (done : ℕ) (search_positions : Li
   pub cursor : IsCursor (record { done = done; search_positions = search_positions }) sources
   pub facts_are : f ≡ fact_at (first_facts sources) done
 
--- this time is at or after the start of every fragment up to this one
+-- the start of a fragment is at or after the start of every fragment up to it
 asked-here : (fs : List Facts) (done : ℕ) → IsTimeline fs → done < length fs → IsAsked fs done (fact_at fs done).start_us
 asked-here fs done order more i below within = starts-never_fall fs order i done below more
 
+-- when a fragment is examined, no fragment before a rendition's position is an entry for its start
 pub search_positions-early : (sources : List Source) (done : ℕ) (search_positions : List SearchPosition) (f : Facts) → IsLooking sources done search_positions f →
     AreEarly f.start_us sources search_positions
 search_positions-early sources done search_positions f looking r within j before =
     rw looking.facts_are ((looking.cursor.search_positions r within).passed (fact_at (first_facts sources) done).start_us j
     (asked-here (first_facts sources) done looking.order looking.more) before)
 
--- positions that were advanced to the first entries are positions
+-- positions that were advanced to the first entries for the examined fragment still fit
 pub cursor-sought : (sources : List Source) (done : ℕ) (search_positions moved : List SearchPosition) (f : Facts) →
     IsLooking sources done search_positions f → length moved ≡ length sources → AreAtEntries f.start_us sources moved →
     IsCursor (record { done = done; search_positions = moved }) sources
@@ -56,7 +57,7 @@ cursor-sought sources done search_positions moved f looking count found = record
       };
 }
 
--- a decided fragment is passed
+-- a search may continue after a decided fragment
 pub cursor-next : (sources : List Source) (done : ℕ) (search_positions : List SearchPosition) → IsCursor (record { done = done; search_positions = search_positions }) sources →
     done < length (first_facts sources) → IsDecided sources done → IsCursor (record { done = done + 1; search_positions = search_positions }) sources
 cursor-next sources done search_positions cursor more decided = record {
@@ -90,6 +91,7 @@ decided-settled sources done search_positions moved f looking found settled sync
       | inr here ↦ inr (rw (← start) (omega (arith, at.found, here)))
     ]
 
+-- if some rendition isn't settled for the examined fragment, the search stops there: no place is added and none remains
 pub left-at : (sources : List Source) (done r : ℕ) (search_positions moved : List SearchPosition) (f : Facts) (places : List Place) →
     IsLooking sources done search_positions f → length moved ≡ length sources → AreAtEntries f.start_us sources moved →
     IsUnsettled sources moved r → StopsAt sources done moved places places
@@ -105,6 +107,7 @@ left-at sources done r search_positions moved f places looking count found unset
       exhausted = none-left sources done r looking.order unsettled.within (rw start at none);
     }
 
+-- if all renditions are settled for the examined sync fragment and have spots, its place is added
 pub told-some : (sources : List Source) (done : ℕ) (search_positions moved : List SearchPosition) (f : Facts) (found : List Spot) (before after : List Place) →
     IsLooking sources done search_positions f → length moved ≡ length sources → AreAtEntries f.start_us sources moved →
     AllSettled sources moved → f.sync ≡ true → spots sources f.start_us ≡ Some found → after ≡ before ++ place_of found ∷ [] →
@@ -118,6 +121,7 @@ told-some sources done search_positions moved f found before after looking count
       (decided-settled sources done search_positions moved f looking entries settled);
 }
 
+-- if all renditions are settled for the examined sync fragment but some rendition has no spot, there is no place, and the search continues
 pub told-none : (sources : List Source) (done : ℕ) (search_positions moved : List SearchPosition) (f : Facts) (places : List Place) →
     IsLooking sources done search_positions f → length moved ≡ length sources → AreAtEntries f.start_us sources moved →
     AllSettled sources moved → f.sync ≡ true → spots sources f.start_us ≡ None → AddsPlaceOf sources done moved places places

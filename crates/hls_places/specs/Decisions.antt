@@ -9,17 +9,18 @@ use Rattle.hls_places_laws.specs.Places.{common_at}
 use Rattle.hls_places_laws.specs.SearchPositions.{IsCursor, IsExhausted}
 use Rattle.hls_places.specs.declared.cursor.PlaceAdvance.{PlaceAdvance}
 
--- its place was added, and the search continues after it
+-- the examined fragment's place was added, if there is one, and the search continues after it
 pub record AddsPlaceOf (sources : List Source) (done : ℕ) (search_positions : List SearchPosition) (before after : List Place) : Type 0 where
   pub places : after ≡ before ++ option_to_list (common_at sources (fact_at (first_facts sources) done))
   pub cursor : IsCursor (record { done = done + 1; search_positions = search_positions }) sources
 
--- it isn't decided, and no place remains
+-- the examined fragment isn't decided, so no place was added and none remains
 pub record StopsAt (sources : List Source) (done : ℕ) (search_positions : List SearchPosition) (before after : List Place) : Type 0 where
   pub places : after ≡ before
   pub cursor : IsCursor (record { done = done; search_positions = search_positions }) sources
   pub exhausted : IsExhausted (record { done = done; search_positions = search_positions }) sources
 
+-- the result of examining fragment `done`: true if it is decided and its place added, false if the search stops at it
 abbrev pub HasDecided : List Source → ℕ → List SearchPosition → List Place → List Place → Bool → Type 0
 HasDecided sources done search_positions before after true = AddsPlaceOf sources done search_positions before after
 HasDecided sources done search_positions before after false = StopsAt sources done search_positions before after

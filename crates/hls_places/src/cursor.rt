@@ -14,10 +14,12 @@ use hls_places_laws::{Place, SearchPosition};
 use std::alloc::{AllocError, Global};
 use std::marker::Model;
 
-/// The progress of the search for common places: in rendition 0, and a position in each rendition.
+/// Where the search for common places stopped. Each place but the closing one is at a fragment of rendition 0.
 #[derive(Drop)]
 pub struct PlaceCursor {
+    /// The number of fragments of rendition 0 that were examined.
     done: u64,
+    /// In each rendition, where the search continues.
     search_positions: Vec<SearchPosition>,
 }
 

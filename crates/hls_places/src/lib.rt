@@ -1,4 +1,5 @@
-//! Common places, at which every rendition can be cut, and the tables of them that programmes are cut from.
+//! Common places, at which every rendition can be cut, and the tables of them that programmes are cut from. The program searches with
+//! `PlaceCursor`; `common`, `programme`, `allowed` and `cost` work on whole lists and tables, for users of this crate alone.
 #![tactic(auto)]
 
 mod closing_place;

@@ -19,7 +19,7 @@ pub record ShareHistory (a b : List Source) : Type 0 where
   pub same : length b ≡ length a
   pub each : (r : ℕ) → r < length a → SourceGrows (source_at a r) (source_at b r) ⊎ SourceGrows (source_at b r) (source_at a r)
 
--- one list of common places is a prefix of the other
+-- if two channels share their history, one channel's list of common places is a prefix of the other's
 abbrev pub PlacesOfPrefixesAgree : Type 0
 PlacesOfPrefixesAgree = (a b : List Source) → AreSources a → AreSources b → ShareHistory a b →
     (whole : List Place) × IsAppended (places_of a) whole × IsAppended (places_of b) whole

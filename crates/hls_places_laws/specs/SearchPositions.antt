@@ -12,17 +12,19 @@ pub record CursorData : Type 0 where
   pub done : ℕ
   pub search_positions : List SearchPosition
 
+-- the position before the first fragment, which is also the default if there is no such position
 abbrev pub no_position : SearchPosition
 no_position = record { at = 0; runs = 0 }
 
+-- the position of the search in rendition r
 abbrev pub position_at : List SearchPosition → ℕ → SearchPosition
 position_at search_positions r = slice_index_or search_positions r no_position
 
--- before the search
+-- the position before a search, for a number of renditions
 abbrev pub first_cursor : ℕ → CursorData
 first_cursor renditions = record { done = 0; search_positions = replicate renditions no_position }
 
--- a time at or after the start of each fragment of rendition 0 before number `done`
+-- a time at or after the start of each fragment of rendition 0 up to and including number `done`
 abbrev pub IsAsked : List Facts → ℕ → ℕ → Type 0
 IsAsked fs done t = (i : ℕ) → i ≤ done → i < length fs → (fact_at fs i).start_us ≤ t
 
@@ -48,6 +50,6 @@ pub record IsCursor (p : CursorData) (sources : List Source) : Type 0 where
   pub decided : (i : ℕ) → i < p.done → IsDecided sources i
   pub search_positions : (r : ℕ) → r < length sources → IsSearchPosition (first_facts sources) p.done (source_at sources r) (position_at p.search_positions r)
 
--- no common place remains from it
+-- no common place remains from the position on
 abbrev pub IsExhausted : CursorData → List Source → Type 0
 IsExhausted p sources = filter_map (common_at sources) (drop p.done (first_facts sources)) ≡ []

@@ -1,3 +1,4 @@
+-- The places that steps from one place lead to are contiguous.
 use Rattle.std.proofs.Common.{◌≡◌, ℕ, zero, suc, ◌+◌, ◌-◌, ◌*◌, ◌<◌, ◌≤◌, List, length, arith, add-zero, inl, inr, refl, subst}
 use Rattle.std.proofs.lemmas.Bool.{cases_lt}
 use Rattle.hls_check_tables.specs.declared.spot.Spot.{Spot}
@@ -18,6 +19,7 @@ never_falls f t next q (suc k) h =
     let P : ℕ → Type 0 = λ x. f (place_at t.places q) ≤ f (place_at t.places x) in
     subst P same (omega (arith, so_far, more))
 
+-- what doesn't decrease from any place to the next doesn't decrease from any place to a later one
 never_falls_to : (f : List Spot → ℕ) (t : Table) →
     ((p : ℕ) → p + 1 < length t.places → f (place_at t.places p) ≤ f (place_at t.places (p + 1))) →
     (q j : ℕ) → q ≤ j → j < length t.places → f (place_at t.places q) ≤ f (place_at t.places j)
@@ -65,13 +67,13 @@ allowed_between t orderly p a b near far j up down =
           };
     }
 
--- so after a place that a step leads to, and from one that none leads to, no step leads to any place
+-- if a step leads to place q and none to place m, which is after it, none leads to a place after m
 pub none_from : (t : Table) → IsOrderly t → (p q m : ℕ) → Allowed t p q → q ≤ m → (Allowed t p m → ⊥) →
     (j : ℕ) → m ≤ j → Allowed t p j → ⊥
 none_from t orderly p q m here up none j after there =
     none (allowed_between t orderly p q j here there m up after)
 
--- a first and a last one make a span
+-- the first and the last place that steps lead to make a span
 pub span_found : (t : Table) → IsOrderly t → (p first last : ℕ) → IsFirstStep t p first → Allowed t p last →
     first ≤ last → ((j : ℕ) → last < j → Allowed t p j → ⊥) → IsSpan t p first (last + 1)
 span_found t orderly p first last is_first there up not_before =

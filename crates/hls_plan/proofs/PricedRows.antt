@@ -1,3 +1,4 @@
+-- How the prices change as a row is examined, place by place.
 use Rattle.std.proofs.Common.{◌≡◌, ◌≢◌, ℕ, zero, suc, replicate, ◌+◌, ◌*◌, ◌<◌, ◌≤◌, List, length, set, get_or, cond, Option, Some, None, Bool, true, false, arith, refl, sym, ap, ◌∙◌, inl, inr, below_more, get_or-set_other, get_or-set_same, length-set}
 use Rattle.std.proofs.lemmas.Bool.{cases_eq, cases_lt, ltb-true, ltb-false}
 use Rattle.std.proofs.lemmas.List.{length-replicate}
@@ -13,7 +14,7 @@ Keeps-lower step None price found lower keeps = tt
 Keeps-lower step (Some x) price None lower keeps = absurd keeps
 Keeps-lower step (Some x) price (Some y) lower keeps = omega (arith, ltb-true price y lower, keeps)
 
--- a price that isn't lower changes nothing, since the step respects the one found
+-- if the price that a step offers isn't lower, the step respects the price found
 Keeps-found : (step a price : ℕ) (found : Option ℕ) → price ≡ a + step → is_lower_price price found ≡ false →
     KeepsPrice step (Some a) found
 Keeps-found step a price None sum lower = cc
@@ -67,19 +68,19 @@ row_over t p q prices origins pricing keep = record {
   row = λ j below. absurd (omega arith);
 }
 
--- so it is if no later step from it is allowed
+-- a row is complete if no step from its place leads to place q or a later one
 pub row_end : (t : Table) (p q : ℕ) (prices : List (Option ℕ)) (origins : List ℕ) →
     IsPricing t p q prices origins → ((j : ℕ) → p < j → q ≤ j → Allowed t p j → ⊥) → IsPricing t (p + 1) 0 prices origins
 row_end t p q prices origins pricing none =
     row_over t p q prices origins pricing (λ j after rises allowed. absurd (none j rises after allowed))
 
--- and if its place can't be reached
+-- a row is complete if its place has no price
 pub row_unpriced : (t : Table) (p : ℕ) (prices : List (Option ℕ)) (origins : List ℕ) →
     IsPricing t p 0 prices origins → price_at prices p ≡ None → IsPricing t (p + 1) 0 prices origins
 row_unpriced t p prices origins pricing unpriced =
     row_over t p 0 prices origins pricing (λ j from rises allowed. rw unpriced tt)
 
--- place q gets a lower price, that of place p plus the step
+-- place q is done after it got a lower price, that of place p plus the step
 row_taken : (t : Table) (p q a : ℕ) (prices : List (Option ℕ)) (origins : List ℕ) →
     IsPricing t p q prices origins → price_at prices p ≡ Some a → p < q → Allowed t p q →
     cost t p q ≤ cost_limit → is_lower_price (a + cost t p q) (price_at prices q) ≡ true →
@@ -154,7 +155,7 @@ row_taken t p q a prices origins pricing priced rises allowed small lower =
           (λ up step. rw (here, other p (omega arith), priced) (omega arith));
     }
 
--- the state after an offer, whether it was accepted or not
+-- place q is done after an offer, whether the price was lower or not
 row_offered_at : (t : Table) (p q a price : ℕ) (prices : List (Option ℕ)) (origins : List ℕ) (b : Bool) →
     IsPricing t p q prices origins → price_at prices p ≡ Some a → p < q → Allowed t p q →
     price ≡ a + cost t p q → cost t p q ≤ cost_limit → is_lower_price price (price_at prices q) ≡ b →
@@ -170,6 +171,7 @@ row_offered_at t p q a price prices origins false pricing priced rises allowed s
   priced,
 )
 
+-- place q is done after it was offered the price of place p plus the step, and place p keeps its price
 pub row_offered : (t : Table) (p q a price : ℕ) (prices : List (Option ℕ)) (origins : List ℕ) →
     IsPricing t p q prices origins → price_at prices p ≡ Some a → p < q → Allowed t p q →
     price ≡ a + cost t p q → cost t p q ≤ cost_limit →
@@ -181,12 +183,13 @@ row_offered t p q a price prices origins pricing priced rises allowed sum small 
     row_offered_at t p q a price prices origins (is_lower_price price (price_at prices q)) pricing priced rises allowed
     sum small refl
 
--- before the first row only the first place has a price
+-- a list filled with None has no price
 unpriced_at : (n k : ℕ) → price_at (replicate n None) k ≡ None
 unpriced_at zero k = refl
 unpriced_at (suc n) zero = refl
 unpriced_at (suc n) (suc k) = unpriced_at n k
 
+-- before the first row, a price of 0 for the first place and none for the others are sound
 pub pricing_start : (t : Table) (none : List (Option ℕ)) (origins : List ℕ) → IsTable t →
     none ≡ replicate (length t.places) None → length origins ≡ length t.places →
     IsPricing t 0 0 (set none 0 (Some 0)) origins

@@ -1,3 +1,4 @@
+-- The number of pairs that are examined in one row, and in all.
 use Rattle.std.proofs.Common.{◌≡◌, ℕ, ◌+◌, ◌-◌, ◌*◌, ◌/◌, ◌<◌, ◌≤◌, length, arith, inl, inr}
 use Rattle.std.proofs.lemmas.Bool.{cases_lt}
 use Rattle.hls_check_tables.specs.Tables.{Table, IsTable}
@@ -6,7 +7,7 @@ use Rattle.hls_check_tables.proofs.RowEnds.{none_past_end}
 use Rattle.hls_plan.specs.Spans.{IsSpan}
 use Rattle.hls_plan.specs.PairCounts.{EndsWithin}
 
--- the examinations of one more row
+-- if each row takes at most `row` examinations, p + 1 rows take at most p + 1 times that number
 pub one_more_row : (p row before first after : ℕ) → before ≤ first + p * row → after ≤ before + row →
     after ≤ first + (p + 1) * row
 one_more_row p row before first after so_far more =

@@ -1,3 +1,4 @@
+-- A plan is traced back from the last place, from each place to the one that it was reached from.
 use Rattle.std.proofs.Common.{◌≡◌, ℕ, ◌+◌, ◌-◌, List, [], ◌∷◌, ◌++◌, length, reverse, is_some, true, Option, Some, None, arith, refl, sym, ap, ◌∙◌, subst}
 use Rattle.std.proofs.lemmas.List.{reverse-append}
 use Rattle.hls_check_tables.specs.Tables.{Table}
@@ -24,12 +25,13 @@ way_alone t prices at path (Some total) is_last none priced some =
       paid = paid;
     }
 
+-- if the last place has a price, it is a path back by itself
 pub way_start : (t : Table) (prices : List (Option ℕ)) (at : ℕ) (path : List ℕ) → at ≡ length t.places - 1 → path ≡ [] →
     is_some (price_at prices (length t.places - 1)) ≡ true → IsPathBack t prices at (path ++ at ∷ [])
 way_start t prices at path is_last none some =
     way_alone t prices at path (price_at prices at) is_last none refl (ap (λ (x : ℕ). is_some (price_at prices x)) is_last ∙ some)
 
--- one step further back, to the origin
+-- a path back from a place is continued to the place that it was reached from
 pub way_more : (t : Table) (prices : List (Option ℕ)) (at origin : ℕ) (path : List ℕ) (back : IsPathBack t prices at path) →
     IsReached t prices at back.price origin → IsPathBack t prices origin (path ++ origin ∷ [])
 way_more t prices at origin path back reached =

@@ -17,7 +17,7 @@ planned_claim t (NoCut closed) = NoneClaim closed.items
 abbrev pub certificate_of : Table → Planned → CertificateData
 certificate_of t planned = record { table = t; shown = planned_claim t planned }
 
--- it can be written as text
+-- the result's claim can be written as text
 abbrev pub HasClaimForm : Table → Planned → Type 0
 HasClaimForm t planned = IsForm (length t.places) (planned_claim t planned)
 

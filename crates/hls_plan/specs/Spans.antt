@@ -23,12 +23,13 @@ pub record IsSpan (t : Table) (p first end : ℕ) : Type 0 where
   pub each : (j : ℕ) → first ≤ j → j < end → Allowed t p j
   pub others : (j : ℕ) → p < j → Allowed t p j → (first ≤ j) × (j < end)
 
--- If each place of the span is examined once as well, row p takes at most as many examinations as it has pairs;
+-- finding the span of row p, and examining each of its places once, takes at most one examination for each of the row's pairs
 abbrev pub HasPairLooks : Table → ℕ → Option (ℕ × ℕ) → ℕ → ℕ → Type 0
 HasPairLooks t p None old new = new + p + 1 ≤ old + length t.places
 HasPairLooks t p (Some (first, end)) old new = new + (end - first) + p + 1 ≤ old + length t.places
 
--- without a span, at most as many as up to the row's end, otherwise an eighth more than up to the span's end.
+-- without a span, finding that out takes at most one examination for each place up to the row's end; with one, finding it and examining its places
+-- takes at most an eighth more than one for each place up to the span's end
 abbrev pub HasRowLooks : Table → ℕ → Option (ℕ × ℕ) → ℕ → ℕ → Type 0
 HasRowLooks t p None old new =
     (end : ℕ) → p < end → end < length t.places → IsRowEnd t p end → new + p ≤ old + end

@@ -18,10 +18,11 @@ abbrev pub segment_since : List Spot → LiveSegment → LiveSegment
 segment_since cut segment =
     record { from = place_since cut segment.from; to = place_since cut segment.to; mark = segment.mark }
 
--- no segment precedes the first one, so it has no mark
+-- the segment without a mark
 abbrev pub without_discontinuity : LiveSegment → LiveSegment
 without_discontinuity segment = record { from = segment.from; to = segment.to; mark = false }
 
+-- the segments as the first ones of a line: no segment precedes the first one, so it has no mark
 abbrev pub as_first : List LiveSegment → List LiveSegment
 as_first [] = []
 as_first (segment ∷ rest) = without_discontinuity segment ∷ rest
@@ -40,6 +41,8 @@ pub record ContinuesFrom (line_goal : LineGoal) (places : List Place) (removed :
   pub after_cut : (k : ℕ) (segment : LiveSegment) → slice_get (drop removed (line_of line_goal places).segments) k ≡ Some segment →
       IsPlaceFrom p segment.from × IsPlaceFrom p segment.to
 
+-- if a line without its first segments begins at place p, the line of the places from p, counted from there, has the same segments, except that its
+-- first one has no mark
 abbrev pub LineFromCutAgrees : Type 0
 LineFromCutAgrees = (line_goal : LineGoal) (places : List Place) (removed : ℕ) (p : Place) → AreInRow places →
     removed ≤ length (line_of line_goal places).segments → front_of (live_of line_goal places removed) ≡ Some p →
@@ -61,7 +64,7 @@ pub record IsCutOf (line_goal : LineGoal) (sources : List Source) (removed : ℕ
   pub front : front_of (live_of line_goal (places_of sources) removed) ≡ Some p
   pub not_ended : p.closing ≡ false
 
--- a segment after the cut, and the other origin's
+-- the other origin's segment y is segment x, counted from the cut, and neither end of x precedes the cut
 pub record IsSameFrom (cut : Place) (n : ℕ) (x y : LiveSegment) : Type 0 where
   pub same : y ≡ segment_counted_from cut n x
   pub after_cut : IsPlaceFrom cut x.from × IsPlaceFrom cut x.to

@@ -18,9 +18,9 @@ abbrev pub FrontIsAPlace : Type 0
 FrontIsAPlace = (line_goal : LineGoal) (places : List Place) (removed : ℕ) (p : Place) →
     front_of (live_of line_goal places removed) ≡ Some p → IsOneOf places p
 
--- there are fewer segments than places
-abbrev pub SegmentsAreFewerThanPlaces : Type 0
-SegmentsAreFewerThanPlaces = (line_goal : LineGoal) (places : List Place) → length (line_of line_goal places).segments ≤ length places
+-- there are no more segments than places
+abbrev pub SegmentsAreNoMoreThanPlaces : Type 0
+SegmentsAreNoMoreThanPlaces = (line_goal : LineGoal) (places : List Place) → length (line_of line_goal places).segments ≤ length places
 
 -- the front place's spots begin with units that exist, or that come next
 abbrev pub FrontUnitsExist : Type 0

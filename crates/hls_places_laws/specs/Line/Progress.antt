@@ -16,6 +16,7 @@ pub record LineProgress : Type 0 where
 abbrev pub no_progress : LineProgress
 no_progress = record { line = record { segments = []; segment_start = None }; best = None }
 
+-- the progress with these closed segments, this start of the next segment, and this best place
 abbrev pub progress_with : List LiveSegment → SegmentStart → Option Place → LineProgress
 progress_with segments o best = record { line = record { segments = segments; segment_start = Some o }; best = best }
 
@@ -23,6 +24,7 @@ progress_with segments o best = record { line = record { segments = segments; se
 abbrev pub has_earlier : ℕ → List LiveSegment → Bool
 has_earlier removed segments = nat_lt 0 (removed + length segments)
 
+-- the segments with one more at the end, from the open place to another place
 abbrev pub closed_with : ℕ → List LiveSegment → SegmentStart → Place → List LiveSegment
 closed_with removed segments o to = segments ++ segment_to (has_earlier removed segments) o to ∷ []
 
@@ -42,20 +44,21 @@ progress_restarted_at line_goal removed segments o (Some b) q =
     progress_to line_goal removed (closed_with removed segments o b) (start_at b) None q
     (progress_with (closed_with removed segments o b) (restart_at q) None)
 
+-- the progress after place q: the first place of all starts the first segment, each other one is tried as an end of the open segment
 unfoldable pub progress_from : LineGoal → ℕ → List LiveSegment → Option SegmentStart → Option Place → Place → LineProgress
 progress_from line_goal removed segments None best q = progress_with segments (start_at q) best
 progress_from line_goal removed segments (Some o) best q =
     progress_to line_goal removed segments o best q (progress_restarted_at line_goal removed segments o best q)
 
--- after one more place
+-- the progress after one more place
 abbrev pub progress_after : LineGoal → ℕ → LineProgress → Place → LineProgress
 progress_after line_goal removed t q = progress_from line_goal removed t.line.segments t.line.segment_start t.best q
 
--- after a list of places
+-- the progress after a list of places, added one after another
 unfoldable pub advanced_through : LineGoal → ℕ → LineProgress → List Place → LineProgress
 advanced_through line_goal removed t [] = t
 advanced_through line_goal removed t (q ∷ rest) = advanced_through line_goal removed (progress_after line_goal removed t q) rest
 
--- without its first n segments
+-- the progress without the line's first n segments
 abbrev pub progress_without : ℕ → LineProgress → LineProgress
 progress_without n t = record { line = record { segments = drop n t.line.segments; segment_start = t.line.segment_start }; best = t.best }

@@ -1,3 +1,5 @@
+-- After the goal, the numbers of renditions and of places complete the header.
+-- If one of the two lines is missing or bad, it is the text's first wrong line.
 use Rattle.std.proofs.Common.{◌+◌, rules}
 use Rattle.hls_check.specs.WrongLines.{IsFirstWrongLine}
 use Rattle.hls_check.specs.Stages.{IsReadUpTo, AtRenditions, AtCount}

@@ -1,3 +1,5 @@
+-- After the rule, the target and the preferred length complete the goal.
+-- If one of the two lines is missing or bad, it is the text's first wrong line.
 use Rattle.std.proofs.Common.{◌+◌, rules}
 use Rattle.hls_check.specs.WrongLines.{IsFirstWrongLine}
 use Rattle.hls_check.specs.Stages.{IsReadUpTo, AtTarget, AtPreferred}

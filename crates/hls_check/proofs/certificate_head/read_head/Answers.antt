@@ -1,3 +1,5 @@
+-- The rule, the goal and the counts are the whole header, which ends four lines after the version lines.
+-- If one of these parts has a wrong line, that is the first of the text.
 use Rattle.std.proofs.Common.{ℕ, ◌≡◌, ◌+◌, subst, arith, rules}
 use Rattle.hls_check.specs.WrongLines.{IsFirstWrongLine}
 use Rattle.hls_check.specs.Stages.{HasHead}

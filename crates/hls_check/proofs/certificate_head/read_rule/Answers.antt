@@ -1,3 +1,5 @@
+-- A text of version 1 has rule 1, and its target is next; in version 2 the second line has the charge of the rule.
+-- If the version line or the charge is missing or bad, that line is the first wrong one.
 use Rattle.std.proofs.Common.{◌≡◌, ℕ, List, rules, subst}
 use Rattle.std.proofs.lemmas.Bool.{iff_false}
 use Rattle.hls_text.specs.Lines.{IsFirstLine}
@@ -7,7 +9,7 @@ use Rattle.hls_check.specs.Stages.{IsReadUpTo, AtRule}
 use Rattle.hls_check.proofs.Wrongs.{stops, at_target, at_rule, at_charged, header_missing, header_bad}
 use Rattle.hls_check.proofs.certificate_head.read_rule.Goals as goal
 
--- after a first line that is this word
+-- if the first line of a text equals a word, that word is the first line
 first_is : (bytes line after word : List ℕ) → line ≡ word → IsFirstLine bytes line after → IsFirstLine bytes word after
 first_is bytes line after word is first = subst (λ (l : List ℕ). IsFirstLine bytes l after) is first
 

@@ -1,3 +1,4 @@
+-- A certificate passes the check exactly if it is good.
 use Rattle.hls_check.proofs.GoodAnswers.{good_from_ok, ok_from_good}
 use Rattle.hls_check.proofs.checker.check.Goals as goal
 

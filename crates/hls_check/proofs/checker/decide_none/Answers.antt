@@ -1,3 +1,5 @@
+-- If no step leaves the closed set, the certificate proves that there is no cut.
+-- If the last place is in the set too, that is the first fault.
 use Rattle.std.proofs.Common.{rules}
 use Rattle.hls_check.proofs.ClosedPrices.{stays_in}
 use Rattle.hls_check.proofs.checker.decide_none.Goals as goal

@@ -1,3 +1,4 @@
+-- If all earlier tests pass and some step doesn't respect the prices, the first such step is the certificate's fault.
 use Rattle.hls_check.proofs.ClosedPrices.{broken_answer}
 use Rattle.hls_check.proofs.checker.decide_verdict.Goals as goal
 

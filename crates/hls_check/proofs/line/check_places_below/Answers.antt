@@ -1,3 +1,4 @@
+-- If the next number is less than the count as well, all place numbers up to it are, and they are the list so far.
 use Rattle.hls_check.proofs.LineKinds.{below_more}
 use Rattle.hls_check.proofs.line.check_places_below.Goals as goal
 

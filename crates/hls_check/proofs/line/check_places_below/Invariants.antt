@@ -1,3 +1,4 @@
+-- Before each round, the places are the numbers examined so far, and each is less than the count.
 use Rattle.std.proofs.Common.{◌≡◌, ◌<◌, take, All}
 use Rattle.hls_check.proofs.line.check_places_below.Given as goal
 

@@ -1,3 +1,5 @@
+-- A line that isn't `closed` with one number is no line of the closed set.
+-- Neither is one whose place is too low, or isn't in the table.
 use Rattle.hls_check.proofs.LineKinds.{no_closed, closed_too_low, closed_too_far}
 use Rattle.hls_check.proofs.line.parse_closed.Goals as goal
 

@@ -1,3 +1,4 @@
+-- A line has the word and one number exactly if a number follows the word and nothing follows the number.
 use Rattle.std.proofs.Common.{◌≡◌, ◌<◌, length, arith}
 use Rattle.std.proofs.lemmas.Bool.Decides.{nat_tests}
 use Rattle.hls_check.proofs.LineKinds.{no_number, number_read, more_behind}

@@ -1,3 +1,4 @@
+-- A line that doesn't begin with `plan` is no plan line. Neither is one with the number of a place that isn't in the table.
 use Rattle.std.proofs.Common.{◌<◌, All}
 use Rattle.hls_check.proofs.LineKinds.{no_prefix, plan_too_far}
 use Rattle.hls_check.proofs.line.parse_plan.Goals as goal

@@ -1,3 +1,4 @@
+-- A line that isn't `price` with two numbers is no price line. Neither is one whose place is too low, or isn't in the table.
 use Rattle.hls_check.proofs.LineKinds.{no_price, price_too_low, price_too_far}
 use Rattle.hls_check.proofs.line.parse_price.Goals as goal
 

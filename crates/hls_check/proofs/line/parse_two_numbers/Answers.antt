@@ -1,3 +1,5 @@
+-- A line has the word and two numbers exactly if after the word a number, a space and one more number follow, and nothing else.
+-- The cases differ by what is missing first.
 use Rattle.hls_check.proofs.LineKinds.{no_first, no_space, no_second, two_read}
 use Rattle.hls_check.proofs.line.parse_two_numbers.Goals as goal
 

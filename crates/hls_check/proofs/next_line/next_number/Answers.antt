@@ -1,3 +1,4 @@
+-- The line is wrong if its number is out of range, or if it isn't the word and a number.
 use Rattle.std.proofs.Common.{◌<◌, ◌≤◌, inl, inr, arith}
 use Rattle.hls_text.specs.Numbers.{number_line}
 use Rattle.hls_check.specs.Stages.{IsNumberLine}

@@ -1,3 +1,4 @@
+-- If the text begins with a place line, its place is read and less text remains; otherwise the next line is wrong.
 use Rattle.std.proofs.Common.{◌≡◌, ◌++◌, ◌∷◌}
 use Rattle.hls_check_tables.specs.Tables.{IsPlaceOf}
 use Rattle.hls_check.specs.Text.{place_line}

@@ -1,3 +1,4 @@
+-- If the next line isn't a plan line of the table, it is a wrong line.
 use Rattle.hls_check.specs.Stages.{IsPlanLine}
 use Rattle.hls_check.proofs.LineKinds.{line_refused}
 use Rattle.hls_check.proofs.next_line.next_plan.Goals as goal

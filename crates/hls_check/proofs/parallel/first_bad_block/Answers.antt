@@ -1,3 +1,5 @@
+-- The parallel search finds the first block with a step that doesn't respect the prices, or there is none.
+-- Each block that a thread examines begins within the table.
 use Rattle.std.proofs.Common.{◌*◌, ◌<◌, length, ap, ◌∙◌}
 use Rattle.rayon.proofs.ToStd.{nat_range-All}
 use Rattle.hls_check_tables.specs.Certificates.{claim_data}

@@ -1,3 +1,5 @@
+-- The first broken step of the first bad block is the first of the table, since all steps of earlier blocks respect the prices.
+-- If no block is bad, no step is broken.
 use Rattle.std.proofs.Common.{arith, inl, inr}
 use Rattle.std.proofs.lemmas.Bool.{cases_lt}
 use Rattle.hls_check_tables.specs.Certificates.{claim_data}

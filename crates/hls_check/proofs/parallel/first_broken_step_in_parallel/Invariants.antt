@@ -1,3 +1,4 @@
+-- Before each round, all steps from the blocks examined so far respect the prices. Each round leaves fewer blocks.
 use Rattle.std.proofs.Common.{ℕ, ◌-◌, ◌<◌, ◌≤◌}
 use Rattle.hls_check_tables.specs.Certificates.{claim_data}
 use Rattle.hls_check.specs.Rows.{BlockKeepsPrices}

@@ -1,3 +1,5 @@
+-- A place line is skipped if the text begins with a spot for each rendition and an LF. If any of these is missing,
+-- the text doesn't begin with a place line.
 use Rattle.std.proofs.Common.{ℕ, ◌≡◌, subst, arith}
 use Rattle.hls_check.proofs.Scans.{SpotsPassed, none_first, one_passed, none_next, one_more_passed, passed_or_not}
 use Rattle.hls_check.proofs.place.skip_place.Goals as goal

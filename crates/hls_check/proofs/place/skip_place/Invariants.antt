@@ -1,3 +1,4 @@
+-- Before each round, the text begins with as many spots as were skipped, and any place line at its start continues in the rest.
 use Rattle.hls_check.proofs.Scans.{SpotsPassed}
 use Rattle.hls_check.proofs.place.skip_place.Given as goal
 

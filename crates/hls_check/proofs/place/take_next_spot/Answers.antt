@@ -1,3 +1,4 @@
+-- A text begins with a further spot exactly if it begins with a space and the five numbers of a spot after that.
 use Rattle.hls_check.proofs.PlaceTexts.{next_spot, behind_space, without_space}
 use Rattle.hls_check.proofs.place.take_next_spot.Goals as goal
 

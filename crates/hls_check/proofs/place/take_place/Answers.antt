@@ -1,3 +1,5 @@
+-- A place is read if the text begins with a spot for each rendition and an LF. If any of these is missing,
+-- the text doesn't begin with a place line.
 use Rattle.std.proofs.Common.{ℕ, ◌≡◌, subst, arith}
 use Rattle.hls_check.proofs.PlaceTexts.{SpotsRead, no_first_spot, one_read, no_next_spot, one_more_read, place_taken, no_end_of_line}
 use Rattle.hls_check.proofs.place.take_place.Goals as goal

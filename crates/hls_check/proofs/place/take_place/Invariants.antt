@@ -1,3 +1,4 @@
+-- Before each round, the text begins with the spots read so far, and any place line at its start continues in the rest.
 use Rattle.hls_check.proofs.PlaceTexts.{SpotsRead}
 use Rattle.hls_check.proofs.place.take_place.Given as goal
 

@@ -1,3 +1,4 @@
+-- A spot is its five numbers, separated by spaces. If one of them is missing, the text doesn't begin with a spot.
 use Rattle.hls_check.proofs.PlaceTexts.{spot_read, no_fragment, no_prev_end, no_start, no_run_in, no_run_out}
 use Rattle.hls_check.proofs.place.take_spot.Goals as goal
 

@@ -1,3 +1,4 @@
+-- Before each round, every pair of neighbouring places so far is an increasing and allowed step.
 use Rattle.std.proofs.Common.{ℕ, ◌+◌, ◌<◌}
 use Rattle.hls_check.specs.Faults.{IsStepAt}
 use Rattle.hls_check.proofs.plans.first_bad_pair.Given as goal

@@ -1,3 +1,4 @@
+-- A plan that begins with place 0 has the right ends exactly if its last place is the table's last.
 use Rattle.std.proofs.Common.{arith}
 use Rattle.std.proofs.lemmas.Bool.{eq-eqb, eqb-true}
 use Rattle.hls_check.proofs.PlanLists.{ends_from_places, last_from_ends}

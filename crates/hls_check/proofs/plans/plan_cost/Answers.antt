@@ -1,3 +1,4 @@
+-- One more place adds its step's cost, and a bound follows because the places of a plan increase.
 use Rattle.std.proofs.Common.{◌≡◌, ◌+◌, ◌-◌, ◌<◌, get_or, arith}
 use Rattle.hls_check.proofs.PlanLists.{plan_cost-take}
 use Rattle.hls_check.proofs.plans.plan_cost.Goals as goal

@@ -1,3 +1,5 @@
+-- Before each round, the total is the cost of the plan so far. It is at most the number of the last place so far times the cost limit,
+-- so it can't overflow.
 use Rattle.std.proofs.Common.{◌≡◌, ◌-◌, ◌*◌, ◌≤◌, take, slice_index}
 use Rattle.hls_check_tables.specs.Plans.{plan_cost}
 use Rattle.hls_check.proofs.plans.plan_cost.Given as goal

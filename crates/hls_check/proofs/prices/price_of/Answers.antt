@@ -1,3 +1,4 @@
+-- A closed set has an entry for each place of the table, so place p has one.
 use Rattle.std.proofs.Common.{◌<◌, length, map}
 use Rattle.std.proofs.lemmas.List.{length-map}
 use Rattle.hls_check.specs.Rows.{price_if_closed}

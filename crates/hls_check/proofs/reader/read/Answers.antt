@@ -1,3 +1,5 @@
+-- A text without a wrong line is read as its certificate, or memory fails. The text of a certificate has no wrong line,
+-- so the result for it is that certificate or the failure.
 use Rattle.hls_check.proofs.Wrongs.{gives, reads}
 use Rattle.hls_check.proofs.reader.read.Goals as goal
 

@@ -1,3 +1,5 @@
+-- After the table, `none` begins a closed set and `cut` a cut; what follows is read as such.
+-- Any other line, or none, is the first wrong line.
 use Rattle.std.proofs.Common.{ℕ, List, ◌≡◌, subst}
 use Rattle.hls_check.specs.Text.{none_line}
 use Rattle.std.proofs.lemmas.Bool.{iff_false}

@@ -1,3 +1,5 @@
+-- The lines up to `end` are the places of the closed set, by increasing place; every place without a line is outside it.
+-- A line that is missing or of another kind is the first wrong line.
 use Rattle.std.proofs.Common.{ℕ, ◌≡◌, ◌+◌, ◌^◌, ◌<◌, ◌≤◌, ◌-◌, List, [], ◌∷◌, ◌++◌, length, take, replicate, vec_len, Bool, true, false, subst, ap, ◌∙◌, Fits, w64, arith, rules}
 use Rattle.hls_check.specs.Stages.{IsClosedLine}
 use Rattle.std.proofs.lemmas.Bool.{iff_false}

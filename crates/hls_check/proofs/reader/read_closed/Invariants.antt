@@ -1,3 +1,5 @@
+-- Before each round, the closed set is what the lines so far say about the places up to the last of them.
+-- The rest gets shorter in each round.
 use Rattle.std.proofs.Common.{length}
 use Rattle.hls_check.proofs.Claims.{ClosedRead}
 use Rattle.hls_check.proofs.reader.read_closed.Given as goal

@@ -1,3 +1,5 @@
+-- After the cost, the plan and the prices complete a certificate if no text follows.
+-- Otherwise the first wrong line is known, or memory fails. The line numbers don't overflow.
 use Rattle.std.proofs.Common.{ℕ, [], ◌≡◌, ◌+◌, ◌^◌, ◌<◌, ◌≤◌, length, Err, sym, Fits, w64, arith, rules}
 use Rattle.std.proofs.lemmas.Bool.Decides.{nat_tests}
 use Rattle.hls_check_tables.specs.Certificates.{CutClaim}

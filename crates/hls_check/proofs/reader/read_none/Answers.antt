@@ -1,3 +1,4 @@
+-- A closed set completes a certificate if no text follows. Otherwise the line after its end is the first wrong one.
 use Rattle.std.proofs.Common.{◌≡◌, ◌<◌, length, sym, arith}
 use Rattle.std.proofs.lemmas.Bool.Decides.{nat_tests}
 use Rattle.hls_check_tables.specs.Certificates.{NoneClaim}

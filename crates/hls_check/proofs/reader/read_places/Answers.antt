@@ -1,3 +1,4 @@
+-- Place lines are read until there are as many as the header says. If one is bad or missing, it is the first wrong line, or memory fails.
 use Rattle.std.proofs.Common.{ℕ, ◌≡◌, ◌+◌, Err, subst, arith, rules}
 use Rattle.hls_check.specs.Stages.{AtPlace, Builds}
 use Rattle.hls_check.proofs.Wrongs.{PlacesRead, stops_building, no_place_read, place_more, at_place, at_claim}

@@ -1,3 +1,4 @@
+-- Before each round, the places are those of the place lines read so far, one for each line.
 use Rattle.hls_check.proofs.Wrongs.{PlacesRead}
 use Rattle.hls_check.proofs.reader.read_places.Given as goal
 

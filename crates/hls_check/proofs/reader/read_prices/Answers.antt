@@ -1,3 +1,5 @@
+-- The lines up to `end` are the prices, by increasing place; every place without a line has no price.
+-- A line that is missing or of another kind is the first wrong line.
 use Rattle.std.proofs.Common.{ℕ, ◌≡◌, ◌+◌, ◌^◌, ◌<◌, ◌≤◌, ◌-◌, List, [], ◌∷◌, ◌++◌, length, take, replicate, vec_len, Option, Some, None, subst, ap, ◌∙◌, Fits, w64, arith, rules}
 use Rattle.hls_check.specs.Stages.{IsPriceLine}
 use Rattle.std.proofs.lemmas.Bool.{iff_false}

@@ -1,3 +1,5 @@
+-- Before each round, the prices are what the lines so far say about the places up to the last of them.
+-- The rest gets shorter in each round.
 use Rattle.std.proofs.Common.{length}
 use Rattle.hls_check.proofs.Claims.{PricesRead}
 use Rattle.hls_check.proofs.reader.read_prices.Given as goal

@@ -1,3 +1,4 @@
+-- Only places before q have steps to it. So the first broken step to q from the rows before q is the first from all of these rows.
 use Rattle.hls_check_tables.specs.Certificates.{claim_data}
 use Rattle.hls_check.proofs.Seen.{whole_column}
 use Rattle.hls_check.proofs.rows.column_fault.Goals as goal

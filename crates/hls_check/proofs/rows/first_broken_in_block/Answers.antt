@@ -1,3 +1,4 @@
+-- Column by column: the rows before `end` respect the prices so far, and a broken step shortens them to those before its row.
 use Rattle.std.proofs.Common.{refl, arith}
 use Rattle.hls_check_tables.specs.Certificates.{claim_data}
 use Rattle.hls_check.specs.Rows.{StepKeepsPrices}

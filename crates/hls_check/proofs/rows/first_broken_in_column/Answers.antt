@@ -1,3 +1,5 @@
+-- The rows are examined in order. So the place at which the search stops is the first from which the step to q is broken;
+-- if it doesn't stop, all steps to q respect the prices.
 use Rattle.std.proofs.Common.{arith}
 use Rattle.hls_check_tables.specs.Certificates.{claim_data}
 use Rattle.hls_check.specs.Rows.{StepKeepsPrices}

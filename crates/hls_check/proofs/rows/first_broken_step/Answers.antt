@@ -1,3 +1,5 @@
+-- The blocks are examined in order. So the first broken step of a block is the first of the table, if all earlier rows respect the prices;
+-- if no block has one, there is none.
 use Rattle.std.proofs.Common.{◌+◌, arith}
 use Rattle.hls_check_tables.specs.Certificates.{claim_data}
 use Rattle.hls_check.proofs.Blocks.{first_of_all}

@@ -1,3 +1,4 @@
+-- Before each round, all steps from the rows examined so far respect the prices. Each round leaves fewer rows.
 use Rattle.std.proofs.Common.{◌-◌, length}
 use Rattle.hls_check_tables.specs.Certificates.{claim_data}
 use Rattle.hls_check.specs.Rows.{RowsKeepPrices}

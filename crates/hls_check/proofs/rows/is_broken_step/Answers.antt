@@ -1,3 +1,4 @@
+-- A step is broken exactly if its first place has a price, the price of the second is too high or missing, and the step is allowed.
 use Rattle.std.proofs.Common.{refl, sym, ◌∙◌}
 use Rattle.hls_check_tables.specs.Certificates.{claim_data}
 use Rattle.hls_check.proofs.Seen.{unpriced, kept, unkept}

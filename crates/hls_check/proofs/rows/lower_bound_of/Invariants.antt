@@ -1,3 +1,4 @@
+-- Before each round, of the places examined so far that have a price, none has a lower price than the bound, and none starts later.
 use Rattle.hls_check_tables.specs.Certificates.{claim_data}
 use Rattle.hls_check.specs.Rows.{IsLowerBound}
 use Rattle.hls_check.proofs.rows.lower_bound_of.Given as goal

@@ -1,3 +1,4 @@
+-- If a further rendition allows the step from place p to place q, all renditions examined so far allow it.
 use Rattle.std.proofs.Common.{◌≡◌, ℕ, List, refl}
 use borrow.Author.Count.{below_more}
 use Rattle.hls_check_tables.specs.declared.goal.Goal.{Goal}
@@ -6,7 +7,7 @@ use Rattle.hls_check_tables.specs.Tables.{Table, spot_in, place_at}
 use Rattle.hls_check_tables.specs.Steps.{IsSpotStep}
 use Rattle.hls_check.proofs.steps.first_refusing_rendition.Goals as goal
 
--- what two spots that were read imply for their places
+-- if two spots are those of places p and q in rendition r and allow a step, the places allow it in that rendition
 step_seen : (t : Table) (p q r : ℕ) (goal : Goal) (from to : List Spot) (a b : Spot) → goal ≡ t.goal → from ≡ place_at t.places p → to ≡ place_at t.places q
     → a ≡ spot_in from r → b ≡ spot_in to r → IsSpotStep goal.target a b
     → IsSpotStep t.goal.target (spot_in (place_at t.places p) r) (spot_in (place_at t.places q) r)

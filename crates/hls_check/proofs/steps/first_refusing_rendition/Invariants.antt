@@ -1,3 +1,4 @@
+-- Before each round, every rendition examined so far allows the step from place p to place q.
 use Rattle.std.proofs.Common.{ℕ, ◌<◌}
 use Rattle.hls_check_tables.specs.Tables.{spot_in, place_at}
 use Rattle.hls_check_tables.specs.Steps.{IsSpotStep}

@@ -1,3 +1,4 @@
+-- After the last round, the lines of the closed set are appended. Each round appends the line of one place, if it is in the set.
 use Rattle.hls_check.proofs.Written.{closed_text, closed_cons, closed_nil, each_more, each_done}
 use Rattle.std.proofs.Common.{false, arith, ◌++◌}
 use Rattle.hls_check.proofs.writer.push_closed.Goals as goal

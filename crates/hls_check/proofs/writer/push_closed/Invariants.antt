@@ -1,3 +1,4 @@
+-- Before each round, the output with the lines of the remaining places is the earlier output with the lines of the closed set.
 use Rattle.std.proofs.Common.{◌≡◌, ◌++◌, drop}
 use Rattle.hls_check.proofs.Written.{closed_text}
 use Rattle.hls_check.proofs.writer.push_closed.Given as goal

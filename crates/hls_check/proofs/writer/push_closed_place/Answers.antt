@@ -1,3 +1,4 @@
+-- A place in the closed set gets its line, and another place none.
 use Rattle.hls_check.proofs.Written.{not_member, a_member}
 use Rattle.hls_check.proofs.writer.push_closed_place.Goals as goal
 

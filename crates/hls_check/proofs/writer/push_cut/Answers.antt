@@ -1,3 +1,4 @@
+-- The lines of a cut are appended: its cost, its plan, its prices and `end`.
 use Rattle.hls_check.proofs.Written.{cut_written}
 use Rattle.hls_check.proofs.writer.push_cut.Goals as goal
 

@@ -1,3 +1,4 @@
+-- The four numbers of a spot after its fragment number are appended, each after a space.
 use Rattle.hls_check.proofs.Written.{after_fragment_written}
 use Rattle.hls_check.proofs.writer.push_fields_after_fragment.Goals as goal
 

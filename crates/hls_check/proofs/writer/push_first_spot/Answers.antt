@@ -1,3 +1,4 @@
+-- The five numbers of a place's first spot are appended, separated by spaces and without one before the first.
 use Rattle.hls_check.proofs.Written.{first_spot_written}
 use Rattle.hls_check.proofs.writer.push_first_spot.Goals as goal
 

@@ -1,3 +1,5 @@
+-- The header lines of the table are appended: the version lines, the target, the preferred length,
+-- and the numbers of renditions and places.
 use Rattle.std.proofs.Common.{ℕ, ◌++◌, ap, ◌∙◌, [], ◌∷◌}
 use Rattle.hls_text.specs.Lines.{text_of_lines}
 use Rattle.hls_check_tables.specs.declared.goal.Goal.{Goal}

@@ -1,3 +1,4 @@
+-- After the last round, the numbers of all places are appended, each after a space. Each round appends one.
 use Rattle.std.proofs.Common.{arith, ◌++◌}
 use Rattle.hls_text.specs.Numbers.{spaced_numbers}
 use Rattle.hls_check.proofs.Written.{plan_more, plan_done}

@@ -1,3 +1,4 @@
+-- Before each round, the output with the remaining numbers is the earlier output with all of them.
 use Rattle.std.proofs.Common.{◌≡◌, ◌++◌, drop}
 use Rattle.hls_text.specs.Numbers.{spaced_numbers}
 use Rattle.hls_check.proofs.writer.push_more_places.Given as goal

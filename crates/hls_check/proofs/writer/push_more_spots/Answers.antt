@@ -1,3 +1,4 @@
+-- After the last round, the numbers of all spots are appended, each after a space. Each round appends those of one spot.
 use Rattle.std.proofs.Common.{arith, ◌++◌}
 use Rattle.hls_text.specs.Numbers.{spaced_numbers}
 use Rattle.hls_check_tables.specs.Tables.{no_spot}

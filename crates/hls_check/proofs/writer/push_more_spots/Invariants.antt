@@ -1,3 +1,4 @@
+-- Before each round, the output with the numbers of the remaining spots is the earlier output with those of all spots.
 use Rattle.std.proofs.Common.{◌≡◌, ◌++◌, drop}
 use Rattle.hls_text.specs.Numbers.{spaced_numbers}
 use Rattle.hls_check.specs.Text.{place_numbers}

@@ -1,3 +1,4 @@
+-- The lines of a claim that no cut exists are appended: `none`, the closed set and `end`.
 use Rattle.hls_check.proofs.Written.{none_written}
 use Rattle.hls_check.proofs.writer.push_none.Goals as goal
 

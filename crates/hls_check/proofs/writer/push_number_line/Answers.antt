@@ -1,3 +1,4 @@
+-- A line of the word and the number is appended.
 use Rattle.hls_check.proofs.Written.{number_line_written}
 use Rattle.hls_check.proofs.writer.push_number_line.Goals as goal
 

@@ -1,3 +1,4 @@
+-- A place that has a price gets its price line, and another place none.
 use Rattle.hls_check.proofs.Written.{no_price_line, a_price_line}
 use Rattle.hls_check.proofs.writer.push_optional_price.Goals as goal
 

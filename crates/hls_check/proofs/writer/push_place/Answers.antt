@@ -1,3 +1,4 @@
+-- The place line is appended: the numbers of its spots, and LF.
 use Rattle.std.proofs.Common.{List, ◌++◌, ap, ◌∙◌}
 use Rattle.hls_text.specs.Numbers.{numbers_text}
 use Rattle.hls_check_tables.specs.declared.spot.Spot.{Spot}

@@ -1,3 +1,4 @@
+-- After the last round, the lines of all places are appended. Each round appends one.
 use Rattle.std.proofs.Common.{arith, ◌++◌, map}
 use Rattle.hls_text.specs.Lines.{text_of_lines}
 use Rattle.hls_check.specs.Text.{place_line}

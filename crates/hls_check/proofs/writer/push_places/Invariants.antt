@@ -1,3 +1,4 @@
+-- Before each round, the output with the lines of the remaining places is the earlier output with the lines of all places.
 use Rattle.std.proofs.Common.{◌≡◌, ◌++◌, drop, map}
 use Rattle.hls_text.specs.Lines.{text_of_lines}
 use Rattle.hls_check.specs.Text.{place_line}

@@ -1,3 +1,4 @@
+-- The plan line is appended: the first place of the plan after the word, and each further one after a space.
 use Rattle.std.proofs.Common.{ℕ, List, ◌≡◌, ◌++◌, subst}
 use Rattle.std.proofs.lemmas.List.{take_rest}
 use Rattle.hls_text.specs.Numbers.{spaced_numbers}

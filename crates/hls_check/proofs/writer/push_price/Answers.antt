@@ -1,3 +1,4 @@
+-- The price line of the place is appended.
 use Rattle.hls_check.proofs.Written.{price_written}
 use Rattle.hls_check.proofs.writer.push_price.Goals as goal
 

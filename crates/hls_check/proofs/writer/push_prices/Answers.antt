@@ -1,3 +1,4 @@
+-- After the last round, all price lines are appended. Each round appends the line of one place, if it has a price.
 use Rattle.hls_check.proofs.Written.{prices_text, prices_cons, prices_nil, each_more, each_done}
 use Rattle.std.proofs.Common.{None, arith, ◌++◌}
 use Rattle.hls_check.proofs.writer.push_prices.Goals as goal

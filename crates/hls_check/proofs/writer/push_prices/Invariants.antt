@@ -1,3 +1,4 @@
+-- Before each round, the output with the price lines of the remaining places is the earlier output with all price lines.
 use Rattle.std.proofs.Common.{◌≡◌, ◌++◌, drop}
 use Rattle.hls_check.proofs.Written.{prices_text}
 use Rattle.hls_check.proofs.writer.push_prices.Given as goal

@@ -1,3 +1,4 @@
+-- The version lines are appended: one for rule 1, and for rule 2 a second with its charge.
 use Rattle.hls_check.proofs.Written.{rule_written}
 use Rattle.hls_check.proofs.writer.push_rule.Goals as goal
 

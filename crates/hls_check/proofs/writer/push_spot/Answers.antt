@@ -1,3 +1,4 @@
+-- The five numbers of a spot are appended, each after a space.
 use Rattle.hls_check.proofs.Written.{spot_written}
 use Rattle.hls_check.proofs.writer.push_spot.Goals as goal
 

@@ -1,3 +1,4 @@
+-- The numbers of all spots of a place are appended, separated by spaces. If there is no spot, nothing is appended.
 use Rattle.std.proofs.Common.{List, ◌≡◌, ◌<◌, ◌++◌, length, arith, subst}
 use Rattle.std.proofs.lemmas.List.{take_rest}
 use Rattle.hls_text.specs.Numbers.{spaced_numbers}

@@ -1,3 +1,4 @@
+-- The lines of the table are appended: the header and the places.
 use Rattle.std.proofs.Common.{List, ◌++◌, ap, ◌∙◌, map}
 use Rattle.hls_text.specs.Lines.{text_of_lines}
 use Rattle.hls_check_tables.specs.declared.spot.Spot.{Spot}

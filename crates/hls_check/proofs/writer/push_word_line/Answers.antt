@@ -1,3 +1,4 @@
+-- A line that consists of the word is appended.
 use Rattle.hls_check.proofs.Written.{word_written}
 use Rattle.hls_check.proofs.writer.push_word_line.Goals as goal
 

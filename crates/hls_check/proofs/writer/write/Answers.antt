@@ -1,3 +1,4 @@
+-- What is written is the certificate's text: the lines of its table, then those of its claim.
 use Rattle.std.proofs.Common.{◌++◌, ap, ◌∙◌, refl, List, ℕ}
 use Rattle.hls_text.specs.Lines.{text_of_lines}
 use Rattle.hls_check_tables.specs.Tables.{Table}

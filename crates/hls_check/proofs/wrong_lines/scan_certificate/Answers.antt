@@ -1,3 +1,5 @@
+-- The header, the places and the claim are the whole text. So a text without a wrong line in any of them is a certificate's;
+-- otherwise the line that is found is the first wrong one.
 use Rattle.std.proofs.Common.{◌+◌}
 use Rattle.hls_check_tables.specs.Tables.{table_of}
 use Rattle.hls_check.specs.Stages.{SkipsPlaces}

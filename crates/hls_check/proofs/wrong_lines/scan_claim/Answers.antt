@@ -1,3 +1,5 @@
+-- After the table, `none` begins a closed set and `cut` a cut; what follows is scanned as such.
+-- Any other line, or none, is the first wrong line.
 use Rattle.std.proofs.Common.{ℕ, List, ◌≡◌, subst}
 use Rattle.std.proofs.lemmas.Bool.{iff_false}
 use Rattle.hls_text.specs.Lines.{IsFirstLine}

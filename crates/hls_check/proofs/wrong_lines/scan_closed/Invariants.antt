@@ -1,3 +1,4 @@
+-- Before each round, the lines so far are those of a closed set, all of whose places are below `low`. The rest gets shorter in each round.
 use Rattle.std.proofs.Common.{length}
 use Rattle.hls_check.proofs.Scans.{ClosedPassed}
 use Rattle.hls_check.proofs.wrong_lines.scan_closed.Given as goal

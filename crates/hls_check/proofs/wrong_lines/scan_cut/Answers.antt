@@ -1,3 +1,4 @@
+-- After the cost, a plan line is followed by the prices. If the plan line is missing or bad, it is the first wrong line.
 use Rattle.std.proofs.lemmas.Bool.{iff_false}
 use Rattle.hls_check.proofs.Scans.{AfterPlan, missing_plan, wrong_plan, behind_plan}
 use Rattle.hls_check.proofs.wrong_lines.scan_cut.Goals as goal

@@ -1,3 +1,4 @@
+-- After the last line of a certificate, the text is the certificate's if nothing follows; otherwise the next line is the first wrong one.
 use Rattle.std.proofs.Common.{◌≡◌, ◌<◌, length, arith}
 use Rattle.std.proofs.lemmas.Bool.Decides.{nat_tests}
 use Rattle.hls_check.proofs.Wrongs.{is_whole, wrong_behind}

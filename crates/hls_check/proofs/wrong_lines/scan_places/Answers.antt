@@ -1,3 +1,4 @@
+-- Place lines are skipped until there are as many as the header says. If one is bad or missing, it is the first wrong line.
 use Rattle.std.proofs.Common.{ℕ, ◌≡◌, subst, arith}
 use Rattle.hls_check.proofs.Scans.{PlacesPassed, no_place_passed, wrong_place, one_place_more, all_passed}
 use Rattle.hls_check.proofs.wrong_lines.scan_places.Goals as goal

@@ -1,3 +1,4 @@
+-- Before each round, the lines so far are place lines, as many as there were rounds.
 use Rattle.hls_check.proofs.Scans.{PlacesPassed}
 use Rattle.hls_check.proofs.wrong_lines.scan_places.Given as goal
 

@@ -1,3 +1,5 @@
+-- The lines up to `end` are price lines, by increasing place, and no text follows.
+-- Otherwise the first line that is missing, of another kind, or after the end is the first wrong line.
 use Rattle.std.proofs.lemmas.Bool.{iff_false}
 use Rattle.hls_check_tables.specs.Certificates.{CutClaim}
 use Rattle.hls_check.specs.Stages.{certificate_with}

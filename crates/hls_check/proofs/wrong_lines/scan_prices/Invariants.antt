@@ -1,3 +1,4 @@
+-- Before each round, the lines so far are price lines of places below `low`, by increasing place. The rest gets shorter in each round.
 use Rattle.std.proofs.Common.{length}
 use Rattle.hls_check.proofs.Scans.{PricesPassed}
 use Rattle.hls_check.proofs.wrong_lines.scan_prices.Given as goal

@@ -1,3 +1,4 @@
+-- Before each round, in each rendition so far the spots of the two places may begin and end one segment.
 use Rattle.std.proofs.Common.{ℕ, ◌<◌}
 use Rattle.hls_check_tables.specs.Tables.{spot_in}
 use Rattle.hls_check_tables.specs.Steps.{IsSpotStep}

@@ -1,3 +1,4 @@
+-- Before each round, the spots of the renditions so far are in order.
 use Rattle.std.proofs.Common.{ℕ, ◌<◌}
 use Rattle.hls_check_tables.specs.Tables.{spot_in}
 use Rattle.hls_check_tables.specs.Orders.{IsSpotInOrder}

@@ -1,3 +1,4 @@
+-- A place that passes the test is in order, so with it all places so far are.
 use Rattle.std.proofs.Common.{below_more}
 use Rattle.hls_check_tables.proofs.orders.first_unsorted.Goals as goal
 

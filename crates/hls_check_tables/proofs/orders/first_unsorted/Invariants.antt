@@ -1,3 +1,4 @@
+-- Before each round, all places so far are in order.
 use Rattle.std.proofs.Common.{ℕ, ◌<◌}
 use Rattle.hls_check_tables.specs.Orders.{IsInOrder}
 use Rattle.hls_check_tables.proofs.orders.first_unsorted.Given as goal

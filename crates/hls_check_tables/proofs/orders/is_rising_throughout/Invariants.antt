@@ -1,3 +1,4 @@
+-- Before each round, neither ends nor gap counts decrease from a place to the next, for all pairs of neighbours so far.
 use Rattle.std.proofs.Common.{ℕ, ◌+◌, ◌<◌}
 use Rattle.hls_check_tables.specs.Tables.{place_at}
 use Rattle.hls_check_tables.specs.Orders.{IsRising}

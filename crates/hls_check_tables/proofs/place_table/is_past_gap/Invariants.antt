@@ -1,3 +1,4 @@
+-- Before each round, no rendition so far has a gap between the two places.
 use Rattle.std.proofs.Common.{ℕ, ◌<◌, ◌≤◌}
 use Rattle.hls_check_tables.specs.Tables.{spot_in}
 use Rattle.hls_check_tables.proofs.place_table.is_past_gap.Given as goal

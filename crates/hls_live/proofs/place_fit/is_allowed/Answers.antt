@@ -1,3 +1,4 @@
+-- The answer is whether a segment may span from one place to the other: the test for a pair of a recording's places is the same test.
 use Rattle.std.proofs.lemmas.Bool.Decides.{same_from_decides}
 use Rattle.hls_live.proofs.Cited.{step-from_allowed, allowed-from_step}
 use Rattle.hls_places_laws.specs.Line.Steps.{is_allowed}

@@ -1,3 +1,4 @@
+-- The answer is whether some rendition's spot has different gap counts before and after it, that is, a gap immediately before the place.
 use Rattle.std.proofs.Common.{not, eqb, tests, rules}
 use Rattle.std.proofs.lemmas.Iterator.{YieldsList-from_slice}
 use Rattle.std.proofs.lemmas.Iterator.Search.{any_from_yields_List}

@@ -1,3 +1,4 @@
+-- If the numbers of spots differ, or a rendition's fragment number isn't greater, the place isn't later; if all are greater, it is.
 use Rattle.std.proofs.Common.{◌<◌, length, arith, sym, ap, below_more, ◌∙◌, List}
 use Rattle.hls_check_tables.specs.declared.spot.Spot.{Spot}
 use Rattle.hls_check_tables.specs.Tables.{spot_in}

@@ -1,3 +1,5 @@
+-- The answer is whether a segment that ends here is long enough: by whether rendition 0 has the preferred length;
+-- if it doesn't, only the closing place will do.
 use Rattle.std.proofs.Common.{ℕ, Bool, leb, sym, ap, ◌∙◌}
 use Rattle.std.proofs.lemmas.Bool.{le-leb, lt-leb}
 use Rattle.std.specs.Prelude.{◌||◌}

@@ -1,9 +1,10 @@
+-- Each step appends the sum for one more rendition (`one-more`), until each rendition of the segment has one.
 use Rattle.std.proofs.Common.{◌≡◌, ℕ, ◌+◌, ◌<◌, ◌⊎◌, List, [], ◌∷◌, ◌++◌, length, get_or, arith, ap, inl, inr, ◌∙◌}
 use Rattle.std.proofs.lemmas.List.{get_or_append_left, get_or_push}
 use Rattle.hls_places_laws.specs.Line.Lengths.{length_in}
 use Rattle.hls_live.proofs.prefix_sums.extend_lengths.Goals as goal
 
--- one more value appended
+-- if each value of a list is as wanted, and so is one more, each value is as wanted when that one is appended
 one-more : (lengths : List ℕ) (wanted : ℕ → ℕ) (r length_here : ℕ) → length lengths ≡ r →
     ((k : ℕ) → k < r → get_or lengths k 0 ≡ wanted k) → length_here ≡ wanted r → (k : ℕ) → k < r + 1 →
     get_or (lengths ++ length_here ∷ []) k 0 ≡ wanted k

@@ -1,3 +1,4 @@
+-- Before each round there is one length for each rendition so far: the earlier length plus the new segment's.
 use Rattle.std.proofs.Common.{◌≡◌, ℕ, ◌+◌, ◌<◌, length, get_or}
 use Rattle.hls_places_laws.specs.Line.Lengths.{length_in}
 use Rattle.hls_live.proofs.prefix_sums.extend_lengths.Given as goal

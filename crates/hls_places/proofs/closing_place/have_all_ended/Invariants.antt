@@ -1,3 +1,4 @@
+-- Before each round, all renditions have ended if and only if the remaining ones have.
 use Rattle.std.proofs.Common.{◌≡◌, drop}
 use Rattle.std.specs.List.{list_all}
 use Rattle.hls_places_laws.specs.Places.{has_ended}

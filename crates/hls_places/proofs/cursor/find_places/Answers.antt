@@ -1,3 +1,4 @@
+-- A decided fragment moves its place from those that are left to those so far (`walk-on`).
 use Rattle.std.proofs.Common.{◌∙◌, sym, ap, length, arith}
 use Rattle.hls_places.proofs.Walks.{was-told, walk-on, written-back}
 use Rattle.hls_places.proofs.Lines.{timeline-of}

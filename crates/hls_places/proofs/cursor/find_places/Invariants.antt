@@ -1,3 +1,5 @@
+-- The cursor fits the renditions, and the places so far, followed by those at the fragments that are left, are those at all fragments from the
+-- start.
 use Rattle.std.proofs.Common.{◌≡◌, ◌-◌, ◌++◌, drop}
 use Rattle.std.specs.List.{filter_map}
 use Rattle.hls_places_laws.specs.Sources.{first_facts}

@@ -1,3 +1,4 @@
+-- By the lemmas of Lookings: an unsettled rendition leaves the fragment undecided; else its spots, or the lack of them, decide it.
 use Rattle.std.proofs.Common.{◌∙◌, sym, arith}
 use Rattle.std.proofs.lemmas.Bool.{not-false}
 use Rattle.hls_places.proofs.Lookings.{search_positions-early, left-at, told-some, told-none}

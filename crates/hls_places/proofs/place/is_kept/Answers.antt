@@ -1,8 +1,10 @@
+-- If the spots end before the floors do, the place is kept: no spot is left that could be below its floor.
 use Rattle.std.proofs.Common.{◌≡◌, ℕ, List, [], ◌∷◌, drop, true, arith, refl, sym, ◌∙◌}
 use Rattle.std.proofs.lemmas.List.{drop_all}
 use Rattle.hls_places_laws.specs.Programmes.{is_kept_above}
 use Rattle.hls_places.proofs.place.is_kept.Goals as goal
 
+-- a place without spots is kept, whatever the floors
 kept-without : (floors : List ℕ) → is_kept_above floors [] ≡ true
 kept-without [] = refl
 kept-without (floor ∷ floors) = refl

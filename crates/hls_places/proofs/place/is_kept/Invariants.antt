@@ -1,3 +1,4 @@
+-- Before each round, the place is kept if and only if its remaining spots are at or above their floors.
 use Rattle.std.proofs.Common.{◌≡◌, drop}
 use Rattle.hls_places_laws.specs.Programmes.{is_kept_above}
 use Rattle.hls_places.proofs.place.is_kept.Given as goal

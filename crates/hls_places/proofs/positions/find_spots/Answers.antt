@@ -1,3 +1,4 @@
+-- The spots so far, followed by those of the renditions that are left, are the spots of all; a rendition without a spot makes both sides none.
 use Rattle.std.proofs.Common.{◌≡◌, ℕ, suc, ◌+◌, ◌<◌, List, [], ◌∷◌, ◌++◌, length, drop, Option, None, Some, arith, refl, sym, ap, ◌∙◌}
 use Rattle.std.specs.Prelude.{option_map}
 use Rattle.std.proofs.Math.Seq.{drop-cons}
@@ -8,7 +9,7 @@ use Rattle.hls_places_laws.specs.Spots.{near_spot}
 use Rattle.hls_places_laws.specs.Places.{with_spot, spots}
 use Rattle.hls_places.proofs.positions.find_spots.Goals as goal
 
--- the spots from one rendition
+-- the spots of the renditions from number r on are that of rendition r and those of the ones after it
 from-next : (sources : List Source) (time r : ℕ) → r < length sources →
     spots (drop r sources) time ≡ with_spot (near_spot (source_at sources r) time) (spots (drop (r + 1) sources) time)
 from-next sources time r within =
@@ -16,7 +17,7 @@ from-next sources time r within =
     ap (λ (l : List Source). spots l time) (drop-cons sources r no_source within)
     ∙ ap (λ (n : ℕ). with_spot (near_spot (source_at sources r) time) (spots (drop n sources) time)) next
 
--- one more after those that were found
+-- appending a spot to those that were found is the same as putting it before the others
 one-more : (found : List Spot) (spot : Spot) (rest : Option (List Spot)) →
     option_map (λ more. (found ++ spot ∷ []) ++ more) rest ≡ option_map (λ more. found ++ more) (with_spot (Some spot) rest)
 one-more found spot None = refl

@@ -1,3 +1,5 @@
+-- Before each round, the spots so far and those of the remaining renditions are the spots for the time; there are none if one of these
+-- has none.
 use Rattle.std.proofs.Common.{◌≡◌, ◌++◌, drop}
 use Rattle.std.specs.Prelude.{option_map}
 use Rattle.hls_places_laws.specs.Places.{spots}

@@ -1,3 +1,4 @@
+-- Before each round, each rendition so far is finished or has a fragment at its position.
 use Rattle.std.proofs.Common.{ℕ, ◌<◌}
 use Rattle.hls_places_laws.specs.Sources.{source_at}
 use Rattle.hls_places_laws.specs.SearchPositions.{position_at}

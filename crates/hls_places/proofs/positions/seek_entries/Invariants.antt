@@ -1,3 +1,4 @@
+-- The first r positions were advanced to the first entries, and the others are unchanged.
 use Rattle.std.proofs.Common.{◌≡◌, ℕ, ◌-◌, ◌<◌, ◌≤◌}
 use Rattle.hls_places_laws.specs.Sources.{source_at}
 use Rattle.hls_places_laws.specs.SearchPositions.{position_at}

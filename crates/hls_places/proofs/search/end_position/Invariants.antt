@@ -1,3 +1,4 @@
+-- Before each round, the position counts the gaps up to the fragment before it. It comes nearer to the end.
 use Rattle.std.proofs.Common.{◌-◌}
 use Rattle.hls_places.specs.Searches.{IsRunAt}
 use Rattle.hls_places.proofs.search.end_position.Given as goal

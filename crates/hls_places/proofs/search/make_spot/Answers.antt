@@ -1,3 +1,4 @@
+-- The gap count at a fragment is the count before it, and 1 more if there is a gap before it (`gaps-run_in`).
 use Rattle.std.proofs.Common.{◌≡◌, ◌+◌, arith, ap, refl}
 use Rattle.hls_media_laws.specs.declared.facts.Facts.{Facts}
 use Rattle.hls_places_laws.specs.Gaps.{gaps}

@@ -1,3 +1,4 @@
+-- The gap count before the next fragment is the count at this one (`run_in-next`), which is at most the number of fragments.
 use Rattle.std.proofs.Common.{arith}
 use Rattle.hls_places.proofs.Cited.{gaps-run_in, gaps-le, run_in-next}
 use Rattle.hls_places.proofs.search.next_position.Goals as goal

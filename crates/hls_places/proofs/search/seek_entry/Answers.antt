@@ -1,3 +1,4 @@
+-- No fragment before the position is an entry, and the position is at one or after all fragments, so it is at the first entry.
 use Rattle.std.proofs.Common.{arith}
 use Rattle.hls_places.proofs.Cited.{first_entry-is}
 use Rattle.hls_places.proofs.search.seek_entry.Goals as goal

@@ -1,3 +1,4 @@
+-- The position counts the gaps up to its fragment, and no fragment before it is an entry.
 use Rattle.std.proofs.Common.{◌-◌}
 use Rattle.hls_places.specs.Searches.{IsRunAt, NoEntryBefore}
 use Rattle.hls_places.proofs.search.seek_entry.Given as goal

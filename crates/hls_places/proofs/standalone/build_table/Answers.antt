@@ -1,3 +1,4 @@
+-- The table that is built is the table between the two places (`cut_out-is`), which is valid and in order.
 use Rattle.std.proofs.Common.{map, arith, sym, subst, ◌∙◌}
 use Rattle.std.proofs.lemmas.List.{length-map}
 use Rattle.hls_check_tables.specs.Orders.{IsOrderly}

@@ -1,3 +1,4 @@
+-- There is a rendition for each recording, so the cursor at the start fits them; their common places are in order.
 use Rattle.std.proofs.Common.{length, map, refl, sym, ap, arith, ◌∙◌}
 use Rattle.hls_places_laws.specs.Sources.{sources_of}
 use Rattle.hls_places.proofs.Cited.{length-sides}

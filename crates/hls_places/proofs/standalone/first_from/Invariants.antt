@@ -1,3 +1,4 @@
+-- Before each round, no place so far is at or after the time: the first one that is is among the remaining ones.
 use Rattle.std.proofs.Common.{◌≡◌, ◌+◌, map, drop}
 use Rattle.hls_places_laws.specs.Firsts.{first_from}
 use Rattle.hls_places.proofs.standalone.first_from.Given as goal

@@ -1,3 +1,4 @@
+-- Each step appends the next rendition (`next-side`); after the last one the list is complete.
 use Rattle.std.proofs.Common.{◌≡◌, ◌∙◌, List, [], ◌∷◌, ◌++◌, false, length, map, take, get_or, sym, ap, arith}
 use Rattle.std.proofs.lemmas.List.{length-map, get_or-map, take_all}
 use Rattle.hls_places_laws.specs.Sources.{Source, sources_of}

@@ -1,3 +1,4 @@
+-- Before each round, the sources so far are those of the first renditions, in order.
 use Rattle.std.proofs.Common.{◌≡◌, map, take}
 use Rattle.hls_places_laws.specs.Sources.{sources_of}
 use Rattle.hls_places.proofs.standalone.make_sources.Given as goal

@@ -1,3 +1,5 @@
+-- The programme begins at the last place at or before the start, and ends at the first one at or after the stop. Without one of these places,
+-- or with too many between, there is none.
 use Rattle.std.proofs.Common.{◌≡◌, ◌-◌, List, map, Ok, Err, arith, refl, sym, ap, subst, Result, Bor}
 use Rattle.std.specs.Result.{IsErrAnd}
 use Rattle.std.proofs.lemmas.List.{length-map}
@@ -49,6 +51,7 @@ returns-then-to-from-gt-PLACE_LIMIT c =
     (omega (arith, c.first_after-after.ensures, c.if-after-eq0.false)) (omega (arith, count, c.first_from-to.ensures, c.if-places-to.false))
     (omega (arith, c.first_after-after.ensures, c.first_from-to.ensures, c.if-to-from-gt-PLACE_LIMIT.true))
 
+-- a result that is an error, and no other error than an allocation failure, is that failure
 only_memory : (r : Result Table ProgrammeFault) → IsErrAnd r (λ e. e ≡ Memory) → r ≡ Err Memory
 only_memory (Ok t) is = absurd is
 only_memory (Err e) is = ap (λ (x : ProgrammeFault). Err x) is

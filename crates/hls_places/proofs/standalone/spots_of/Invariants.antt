@@ -1,3 +1,4 @@
+-- Before each round, the spots so far and those of the remaining places are the spots of all places.
 use Rattle.std.proofs.Common.{◌≡◌, ◌++◌, drop, map}
 use Rattle.hls_places_laws.specs.Order.{spots_of}
 use Rattle.hls_places.proofs.standalone.spots_of.Given as goal

@@ -1,3 +1,4 @@
+-- The planner's certificate is good, its plan is optimal or none exists, its prices are exact, and its claim can be written as text (Results).
 use Rattle.std.proofs.lemmas.Result.{IfOk-weaker}
 use Rattle.hls_plan.proofs.Results.{good_from_found, best_from_found, exact_from_found, shown_from_found}
 use Rattle.hls_plan.proofs.planner.plan_counted.Goals as goal

@@ -1,3 +1,5 @@
+-- The path begins with the last place alone (`way_start`); each step adds the place that the previous one was reached from (`way_more`), which is an
+-- earlier one.
 use Rattle.std.proofs.Common.{◌≡◌, ℕ, ◌-◌, length, arith, ap}
 use Rattle.hls_plan.proofs.WaysBack.{way_start, way_more}
 use Rattle.hls_plan.proofs.planner.trace_plan.Goals as goal

@@ -1,3 +1,4 @@
+-- Before each round, the path leads by origins from the last place back to the place that was reached. It gets nearer to place 0.
 use Rattle.std.proofs.Common.{◌<◌, length}
 use Rattle.hls_plan.specs.Pricing.{IsPathBack}
 use Rattle.hls_plan.proofs.planner.trace_plan.Given as goal

@@ -1,3 +1,4 @@
+-- The vector that is filled with None, with 0 at the first place, is the start of the pricing (`pricing_start`).
 use Rattle.std.proofs.Common.{ℕ, ◌≡◌, replicate, None, ap, ◌∙◌, rules}
 use Rattle.hls_plan.proofs.PricedRows.{pricing_start}
 use Rattle.hls_plan.proofs.price_table.price_places.Goals as goal

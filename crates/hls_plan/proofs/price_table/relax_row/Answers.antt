@@ -1,3 +1,4 @@
+-- The places before the span are skipped (`row_skipped`), each place of it is offered a price (`row_offered`), and then the row is over (`row_end`).
 use Rattle.std.proofs.Common.{◌+◌, ◌∙◌, ◌≤◌, sym, arith}
 use Rattle.hls_plan.proofs.PricedRows.{row_skipped, row_end, row_offered}
 use Rattle.hls_plan.proofs.RowLooks.{span_within}

@@ -1,3 +1,5 @@
+-- Before each round, the prices account for the steps of all earlier rows and for those of row p to places before q; the price of p is unchanged.
+-- One pair was counted for each place of the range so far.
 use Rattle.std.proofs.Common.{◌≡◌, ◌+◌, Some}
 use Rattle.hls_check_tables.specs.Certificates.{price_at}
 use Rattle.hls_plan.specs.Pricing.{IsPricing}

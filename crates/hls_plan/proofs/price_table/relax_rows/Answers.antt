@@ -1,3 +1,4 @@
+-- One more row takes at most one examination for each of its pairs, and at most an eighth more than its reach (`row_within`).
 use Rattle.std.proofs.Common.{◌≡◌, ◌+◌, ◌/◌, suc, length, arith}
 use Rattle.hls_plan.proofs.RowLooks.{one_more_row, row_within}
 use Rattle.hls_plan.proofs.price_table.relax_rows.Goals as goal

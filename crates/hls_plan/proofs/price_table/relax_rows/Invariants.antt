@@ -1,3 +1,4 @@
+-- The first p rows have been examined; their examinations are at most one for each pair, and for each row at most an eighth more than its reach.
 use Rattle.std.proofs.Common.{◌≡◌, ℕ, ◌+◌, ◌*◌, ◌/◌, ◌≤◌, length}
 use Rattle.hls_plan.specs.PairCounts.{pair_count, EndsWithin}
 use Rattle.hls_plan.specs.Pricing.{IsPricing}

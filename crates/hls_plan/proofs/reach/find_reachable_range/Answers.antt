@@ -1,3 +1,4 @@
+-- The steps from the place lead exactly to the places from the first to the last one found: in an orderly table they are contiguous.
 use Rattle.std.proofs.Common.{arith}
 use Rattle.hls_plan.proofs.Between.{span_found}
 use Rattle.hls_plan.proofs.reach.find_reachable_range.Goals as goal

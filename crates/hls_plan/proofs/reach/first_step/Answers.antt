@@ -1,3 +1,4 @@
+-- A row's end excludes all later places; otherwise one more place is known to which no step leads.
 use Rattle.std.proofs.Common.{arith, inl, inr}
 use Rattle.std.proofs.lemmas.Bool.{cases_eq, cases_lt}
 use Rattle.hls_plan.proofs.reach.first_step.Goals as goal

@@ -1,3 +1,4 @@
+-- No step leads to a place before q, none of these ends the row, and each of them was counted.
 use Rattle.std.proofs.Common.{◌≡◌, ℕ, ◌+◌, ◌<◌}
 use Rattle.hls_check_tables.specs.Steps.{Allowed}
 use Rattle.hls_check_tables.specs.Orders.{IsRowEnd}

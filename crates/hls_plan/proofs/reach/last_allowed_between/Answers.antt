@@ -1,3 +1,4 @@
+-- If no step leads to the middle place, none leads to a later one (`none_from`), so it is the new end.
 use Rattle.std.proofs.Common.{◌+◌, ◌-◌, ◌/◌, ℕ, arith}
 use Rattle.hls_plan.proofs.Between.{none_from}
 use Rattle.hls_plan.proofs.reach.last_allowed_between.Goals as goal

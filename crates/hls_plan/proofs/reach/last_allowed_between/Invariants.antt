@@ -1,3 +1,4 @@
+-- A binary search: a step leads to `last`, none to `end` or a later place, and each examination that is counted lowers `end`.
 use Rattle.std.proofs.Common.{ℕ, ◌+◌, ◌-◌, ◌<◌, ◌≤◌, length}
 use Rattle.hls_check_tables.specs.Steps.{Allowed}
 use Rattle.hls_plan.proofs.reach.last_allowed_between.Given as goal

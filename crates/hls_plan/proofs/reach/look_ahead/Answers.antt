@@ -1,3 +1,4 @@
+-- If no step leads to the place ahead, none leads to a later one (`none_from`).
 use Rattle.std.proofs.Common.{arith}
 use Rattle.hls_plan.proofs.Between.{none_from}
 use Rattle.hls_plan.proofs.reach.look_ahead.Goals as goal

@@ -1,3 +1,4 @@
+-- Before each round, a step leads to the last place found; the next one to be tried is later by one and an eighth of the distance so far.
 use Rattle.std.proofs.Common.{◌≡◌, ◌+◌, ◌-◌, ◌/◌, ◌≤◌, length}
 use Rattle.hls_check_tables.specs.Steps.{Allowed}
 use Rattle.hls_plan.proofs.reach.look_ahead.Given as goal

@@ -1,3 +1,4 @@
+-- Before each round, the copy has the places so far, in order.
 use Rattle.std.proofs.Common.{◌≡◌, take}
 use Rattle.hls_check_tables.proofs.certificate_table.CertificateTable.copy_table.Given as goal
 

@@ -1,3 +1,4 @@
+-- The cost can be computed without overflow: the second place is one of a valid table, so the end before its first spot is below 2^53.
 use Rattle.std.proofs.Common.{[], arith}
 use Rattle.hls_check_tables.specs.Tables.{IsPlaceOf, IsSpotInRange, no_spot, place_at, spot_in}
 use Rattle.hls_check_tables.proofs.certificate_table.CertificateTable.cost_between.Goals as goal

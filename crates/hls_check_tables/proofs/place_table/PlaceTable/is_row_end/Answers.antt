@@ -1,3 +1,4 @@
+-- Both reasons for the end of a row, a length and a gap, exclude every step to later places.
 use Rattle.std.proofs.Common.{◌≡◌, true, false, inl, inr, refl}
 use Rattle.hls_check_tables.proofs.RowEnds.{none_past_end}
 use Rattle.hls_check_tables.proofs.place_table.PlaceTable.is_row_end.Goals as goal

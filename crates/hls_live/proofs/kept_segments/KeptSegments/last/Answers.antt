@@ -1,3 +1,4 @@
+-- If there are kept segments, the sums at the segment before the next number are the last ones of the list.
 use Rattle.std.proofs.Common.{◌≡◌, ◌-◌, length, arith, sym, ap, ◌∙◌}
 use Rattle.std.specs.Prelude.{slice_get}
 use Rattle.hls_live.proofs.kept_segments.KeptSegments.last.Goals as goal

@@ -1,3 +1,4 @@
+-- The segment is allowed, so it is short, and its sums and marks fit their bounds; the line with it is sound (`closed-sound`).
 use Rattle.std.proofs.Common.{◌≡◌, true, Some, length, arith, sym, ap, subst}
 use Rattle.hls_places_laws.specs.declared.line.live_segment.LiveSegment.{LiveSegment}
 use Rattle.hls_places_laws.specs.Line.Steps.{is_allowed}

@@ -1,3 +1,5 @@
+-- The sums at the segments that are left, and the marks of the removed ones, fit the shorter line (`without-kept`), which is the defined one
+-- (`slid-is`).
 use Rattle.std.proofs.Common.{◌≡◌, IfOk, [], None, length, arith, ap, subst}
 use Rattle.hls_places_laws.specs.Line.Lengths.{renditions_of}
 use Rattle.hls_places_laws.specs.Line.Live.{Live, without_front}

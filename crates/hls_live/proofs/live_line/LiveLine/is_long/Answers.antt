@@ -1,3 +1,4 @@
+-- One rendition in which too little remains makes the test fail (`each-fails`); without one it holds of each rendition.
 use Rattle.std.proofs.Common.{◌≡◌, ℕ, ◌<◌, ◌≤◌, true, leb, arith, refl, sym, ap, subst}
 use Rattle.std.proofs.lemmas.Bool.{le-leb, lt-leb}
 use Rattle.hls_places_laws.specs.Line.Lengths.{remaining_length, three_targets, each_below, renditions_of}

@@ -1,3 +1,4 @@
+-- If removing `middle` segments doesn't leave enough, neither does removing more (`leaves-more`), so `middle` is the new `high`.
 use Rattle.std.proofs.Common.{ℕ, ◌+◌, ◌-◌, ◌/◌, ◌<◌, ◌≤◌, ◌⊎◌, arith, sym, inl, inr, ◌∙◌}
 use Rattle.std.proofs.lemmas.Bool.{false≢true}
 use Rattle.hls_live.proofs.Cited.{leaves-more}

@@ -1,3 +1,4 @@
+-- A binary search: removing `low` segments leaves enough, or `low` is 0; removing `high` or more never does.
 use Rattle.std.proofs.Common.{ℕ, ◌+◌, ◌-◌, ◌<◌, ◌≤◌, length}
 use Rattle.hls_places_laws.specs.Line.Upkeep.{LineLeaves}
 use Rattle.hls_live.proofs.live_line.LiveLine.max_slide.Given as goal

@@ -1,3 +1,4 @@
+-- The remaining length is the difference of the sums at the last segment and at the last removed one (`left-progress`).
 use Rattle.std.proofs.Common.{ℕ, zero, suc, ◌<◌, length, arith, ap, subst, ◌∙◌}
 use Rattle.std.proofs.lemmas.List.{get_or_default}
 use Rattle.hls_places_laws.specs.Line.Lengths.{remaining_length, renditions_of}
@@ -5,7 +6,7 @@ use Rattle.hls_places_laws.specs.Line.Live.{Live}
 use Rattle.hls_live.proofs.Keeps.{are-aligned, left-progress, renditions-some}
 use Rattle.hls_live.proofs.live_line.LiveLine.remaining_us.Goals as goal
 
--- a rendition of the line: the first one exists if segments are kept
+-- if there are renditions, a number that is 0 or below their number is that of one
 is-there : (r renditions : ℕ) → 0 < renditions → (0 < r → r < renditions) → r < renditions
 is-there zero renditions some there = some
 is-there (suc r) renditions some there = there (omega arith)

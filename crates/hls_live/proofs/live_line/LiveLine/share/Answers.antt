@@ -1,3 +1,4 @@
+-- The shared segments are the same, so they fit the open place, and the line with them is the same line.
 use Rattle.std.proofs.Common.{◌≡◌, IfOk, [], None, refl, sym, ap, subst, ◌∙◌}
 use Rattle.hls_places_laws.specs.Line.Lengths.{renditions_of}
 use Rattle.hls_places_laws.specs.Line.Live.{Live}

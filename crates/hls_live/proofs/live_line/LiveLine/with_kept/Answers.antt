@@ -1,3 +1,4 @@
+-- Other kept segments that fit the open place leave the line sound (`held-sound`).
 use Rattle.std.proofs.Common.{◌≡◌, None, [], sym, subst}
 use Rattle.hls_places_laws.specs.Line.Lengths.{renditions_of}
 use Rattle.hls_places_laws.specs.Line.Live.{Live}

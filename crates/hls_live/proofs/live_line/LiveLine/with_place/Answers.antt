@@ -1,3 +1,5 @@
+-- By whether there is an open place, a best place, and whether the place is out of reach (`moved-first`, `moved-unbested`, `moved-near`,
+-- `moved-twice`).
 use Rattle.std.proofs.Common.{◌≡◌, IfOk, true, false, not, None, Some, sym, ap, subst, ◌∙◌}
 use Rattle.std.specs.Prelude.{◌&&◌}
 use Rattle.hls_places_laws.specs.Line.Steps.{is_later_place, is_allowed}

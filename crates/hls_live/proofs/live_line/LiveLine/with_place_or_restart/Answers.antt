@@ -1,3 +1,4 @@
+-- By the class of the place (`reach-is`): each class gives the line that the definition has in its case.
 use Rattle.std.proofs.Common.{◌≡◌, IfOk, None, Some, length, sym, ap, subst, ◌∙◌}
 use Rattle.hls_places_laws.specs.declared.place.Place.{Place}
 use Rattle.hls_places_laws.specs.declared.line.segment_start.SegmentStart.{SegmentStart}

@@ -1,3 +1,4 @@
+-- A new open place with an equal number of spots keeps the sums as they are (`opened-sound`).
 use Rattle.std.proofs.Common.{◌≡◌, ◌<◌, true, Some, length, sym, subst}
 use Rattle.hls_places_laws.specs.declared.place.Place.{Place}
 use Rattle.hls_places_laws.specs.Line.Steps.{is_allowed}

@@ -1,3 +1,4 @@
+-- The number is below the number of renditions, so it is within the slice.
 use Rattle.std.proofs.Common.{arith, length, sym, ap, ◌∙◌}
 use Rattle.hls_places.proofs.rendition_sources.RenditionSources.at.Goals as goal
 
