@@ -17,13 +17,14 @@ use Rattle.hls_core_laws.specs.declared.refusal.Refusal.TheVariants.{Overlap}
 use Rattle.hls_core_laws.proofs.Callers.{lane_grown, lanes_timed}
 use Rattle.hls_mend.specs.Channels.{SubmittedContinues}
 
--- a unit that is taken starts at or after the end
+-- a unit that is taken starts at or after the end of its rendition
 late : (l : Lane) (f : Facts) (entries : ℕ) → accept_later l f entries ≡ New → last_end l.facts ≤ f.start
 late l f entries is = elim (cases_Bool (nat_lt f.start (last_end l.facts))) [
   | inl e ↦ (let never : Refused Overlap ≡ New = rw e at is in absurd (cc))
   | inr e ↦ ltb-false f.start (last_end l.facts) e
 ]
 
+-- the same given a recorded unit with the same start, if there is one
 late-beside : (other : Option (List ℕ)) (l : Lane) (f : Facts) (bytes : List ℕ) (entries : ℕ) → accept_with_duplicate other l f bytes entries ≡ New → last_end l.facts ≤ f.start
 late-beside None l f bytes entries is = late l f entries is
 late-beside (Some other) l f bytes entries is = elim (cases_Bool (bytes_eq other bytes)) [
@@ -31,10 +32,12 @@ late-beside (Some other) l f bytes entries is = elim (cases_Bool (bytes_eq other
   | inr e ↦ (let never : Refused Overlap ≡ New = rw e at is in absurd (cc))
 ]
 
+-- the same given the init section of the rendition, if it has one
 late-begun : (i : Option InitData) (l : Lane) (h : HeldBytes) (f : Facts) (bytes : List ℕ) (entries : ℕ) → accept_with_init i l h f bytes entries ≡ New → last_end l.facts ≤ f.start
 late-begun None l h f bytes entries is = absurd (cc)
 late-begun (Some init) l h f bytes entries is = late-beside (duplicate_in f.start (drop l.floor l.facts) h.units) l f bytes entries is
 
+-- a unit that a state takes starts at or after the end of its rendition in that state
 late-in : (s : State) (r : ℕ) (l : Lane) (f : Facts) (bytes : List ℕ) → slice_get (channel s).lanes r ≡ Some l → outcome_of s (Accept r f bytes) ≡ New → last_end l.facts ≤ f.start
 late-in s r l f bytes at new =
     late-begun l.init l (held_bytes s r) f bytes (length s.log) (subst (λ (o : Option Lane). accept o (held_bytes s r) f bytes (length s.log) ≡ New) at new)
@@ -53,11 +56,13 @@ twin (f ∷ fs) (suc k) g (u ∷ us) at len none = elim (cases_Bool (f.start == 
   | inr e ↦ twin fs k g us at (omega (arith, len)) (rw e at none)
 ]
 
+-- an element of a list is at the same index if more elements follow
 at-front : (fs gs : List Facts) (k : ℕ) (f : Facts) → slice_get fs k ≡ Some f → slice_get (fs ++ gs) k ≡ Some f
 at-front [] gs k f at = absurd (cc)
 at-front (x ∷ fs) gs zero f at = at
 at-front (x ∷ fs) gs (suc k) f at = at-front fs gs k f at
 
+-- the element after a list is at the index that is the list's length
 at-end : (fs : List Facts) (g : Facts) (more : List Facts) → slice_get (fs ++ g ∷ more) (length fs) ≡ Some g
 at-end [] g more = refl
 at-end (x ∷ fs) g more = at-end fs g more
@@ -75,7 +80,7 @@ next-late (x ∷ fs) g more in_order =
     let order = in_order (length fs) f g (at-front (x ∷ fs) (g ∷ more) (length fs) f last) next in
     omega (arith, end, order)
 
--- so if the end is where it was, no unit followed
+-- if a unit starts where the first units end, and at or after the end of all of them, then no unit followed the first ones
 none-followed : (fs more : List Facts) (start : ℕ) → UnitsAreInOrder (fs ++ more) → ((at : ℕ) (units : List (List ℕ)) → last_end (fs ++ more) ≤ at → duplicate_in at (fs ++ more) units ≡ None)
     → start ≡ last_end fs → last_end (fs ++ more) ≤ start → more ≡ []
 none-followed fs [] start in_order unique is low = refl
@@ -85,11 +90,13 @@ none-followed fs (g ∷ more) start in_order unique is low =
     let later : last_end all ≤ g.start = (let next = next-late fs g more in_order in omega (arith, next, is, low)) in
     absurd (twin all (length fs) g units (at-end fs g more) (length-replicate (length all) []) (unique g.start units later))
 
+-- units that start at or after the end of a rendition have no duplicate in it, whether or not it has an init section
 unique-in : (l : Lane) (i : Option InitData) → l.init ≡ i → (bare : l.init ≡ None → l.facts ≡ []) → ((init : InitData) → l.init ≡ Some init → (at : ℕ) (units : List (List ℕ)) → last_end l.facts ≤ at → duplicate_in at l.facts units ≡ None)
     → (at : ℕ) (units : List (List ℕ)) → last_end l.facts ≤ at → duplicate_in at l.facts units ≡ None
 unique-in l None none bare found at units low = ap (λ (fs : List Facts). duplicate_in at fs units) (bare none)
 unique-in l (Some init) some bare found at units low = found init some at units low
 
+-- if a unit starts where its rendition ended in a state, and a later state takes it, no unit was recorded in between
 pub submitted-continues : SubmittedContinues
 submitted-continues a b r l f bytes later extends at is new =
     let g = lane_grown a b later extends r l at in

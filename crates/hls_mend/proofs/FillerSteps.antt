@@ -6,6 +6,7 @@ use Rattle.hls_media_laws.specs.InitData.{InitData}
 use Rattle.hls_mend.specs.declared.mended.ReadUnit.{ReadUnit}
 use Rattle.hls_mend.specs.MendedUnits.{FillerSource, filler, filler_ticks, fillers_from}
 
+-- the fillers from `start` are the next one, if it can be made, and those after it
 fillers-next : (left start end : ℕ) (init : InitData) (s : FillerSource) (u : ReadUnit) → 0 < left → start < end → filler init s start (filler_ticks s.len (end - start)) ≡ Some u
     → fillers_from left init s start end ≡ u ∷ fillers_from (left - 1) init s (start + filler_ticks s.len (end - start)) end
 unfolding fillers_from
@@ -13,7 +14,7 @@ fillers-next zero start end init s u some within made = absurd (omega (arith, so
 fillers-next (suc left) start end init s u some within made =
     let a : suc left - 1 ≡ left = omega arith in rw (lt-ltb start end within, made, a) refl
 
--- one more was made
+-- after one more filler was made, those made and those left are still all fillers
 pub made-more : (us : List ReadUnit) (left start end next : ℕ) (init : InitData) (s : FillerSource) (u : ReadUnit) (all : List ReadUnit) → 0 < left → start < end
     → filler init s start (filler_ticks s.len (end - start)) ≡ Some u → next ≡ start + filler_ticks s.len (end - start)
     → us ++ fillers_from left init s start end ≡ all → (us ++ u ∷ []) ++ fillers_from (left - 1) init s next end ≡ all
@@ -23,7 +24,7 @@ made-more us left start end next init s u all some within made is joined =
     ∙ ap (λ (xs : List ReadUnit). us ++ xs) (sym (fillers-next left start end init s u some within made))
     ∙ joined
 
--- no more can be made
+-- if the next filler can't be made, those made are all
 pub made-all : (us : List ReadUnit) (left start end : ℕ) (init : InitData) (s : FillerSource) (all : List ReadUnit) → start < end → filler init s start (filler_ticks s.len (end - start)) ≡ None
     → us ++ fillers_from left init s start end ≡ all → us ≡ all
 unfolding fillers_from
@@ -32,7 +33,7 @@ made-all us (suc left) start end init s all within none joined =
     let stop : fillers_from (suc left) init s start end ≡ [] = rw (lt-ltb start end within, none) refl in
     sym (append-nil us) ∙ ap (λ (xs : List ReadUnit). us ++ xs) (sym stop) ∙ joined
 
--- the gap is filled
+-- if the gap is filled, the fillers made are all
 pub made-over : (us : List ReadUnit) (left start end : ℕ) (init : InitData) (s : FillerSource) (all : List ReadUnit) → end ≤ start → us ++ fillers_from left init s start end ≡ all → us ≡ all
 unfolding fillers_from
 made-over us zero start end init s all over joined = sym (append-nil us) ∙ joined
@@ -40,7 +41,7 @@ made-over us (suc left) start end init s all over joined =
     let stop : fillers_from (suc left) init s start end ≡ [] = rw (le-ltb start end over) refl in
     sym (append-nil us) ∙ ap (λ (xs : List ReadUnit). us ++ xs) (sym stop) ∙ joined
 
--- there are as many as there may be
+-- if no filler may follow, those made are all
 pub made-most : (us : List ReadUnit) (left start end : ℕ) (init : InitData) (s : FillerSource) (all : List ReadUnit) → left ≡ 0 → us ++ fillers_from left init s start end ≡ all → us ≡ all
 unfolding fillers_from
 made-most us left start end init s all none joined =

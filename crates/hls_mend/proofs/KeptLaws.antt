@@ -14,6 +14,7 @@ use Rattle.hls_mend.specs.Spans.{first_duration}
 use Rattle.hls_mend.specs.MendedUnits.{as_sent, treatment_by, unit_treatment, mended_as, mended_by, mended_unit, limits_of}
 use Rattle.hls_mend.specs.Contiguous.{ContiguousIsKept}
 
+-- a unit that starts at the end of its rendition is kept, whatever its first sample is
 kept-by : (init : InitData) (rec : RecordingData) (limits : MendLimits) (f : Facts) (o : Option ℕ) → f.start ≡ last_end rec.facts → treatment_by init rec limits f o ≡ treatments.Keep
 unfolding treatment_of
 kept-by init rec limits f None at = refl
@@ -22,14 +23,17 @@ kept-by init rec limits f (Some first) at = elim (cases_Bool (length rec.facts =
   | inr e ↦ rw (e, at) (rw (eq-eqb (last_end rec.facts) (last_end rec.facts) refl) refl)
 ]
 
+-- a unit that starts at the end of its rendition is kept
 kept-unit : (init : InitData) (rec : RecordingData) (limits : MendLimits) (u : ReadUnit) → u.facts.start ≡ last_end rec.facts → unit_treatment init rec limits u ≡ treatments.Keep
 unfolding unit_treatment
 kept-unit init rec limits u at = kept-by init rec limits u.facts (first_duration init u.bytes) at
 
+-- a unit that is kept is recorded as it was sent
 kept-as : (init : InitData) (rec : RecordingData) (limits : MendLimits) (u : ReadUnit) → mended_as treatments.Keep init rec limits u ≡ as_sent u
 unfolding mended_by
 kept-as init rec limits u = refl
 
+-- a unit that starts at the end of its rendition is recorded as it was sent, and nothing else is
 pub contiguous-is-kept : ContiguousIsKept
 unfolding mended_unit
 contiguous-is-kept settings init rec u at =

@@ -1,3 +1,5 @@
+-- The lemmas of this crate, on the mending of units: their samples and rows, silence and fillers, the boxes that are written,
+-- and the laws of what is recorded for a unit.
 mod RunSteps
 mod SilenceSteps
 mod CutSteps

@@ -14,22 +14,25 @@ use Rattle.hls_mend_laws.specs.Fillers.{filler_of, silent_sample, last_silent, s
 use Rattle.hls_mend_laws.proofs.Callers.{fragment-len}
 use Rattle.hls_mend.proofs.CutSteps.{next-sample}
 
--- whether frames of this size may fit
+-- whether this many frames of this size, each with a row of 16 bytes, may fit a unit of at most 67108864 bytes
 abbrev pub may_fit : ℕ → ℕ → Bool
 may_fit frames size = nat_le frames 4194304 && (nat_le size unit_limit && nat_le (frames * size) unit_limit)
 
+-- the bytes of a repeated frame are as long as the frame, times their number
 frames-len : (times : ℕ) (frame : List ℕ) → length (concat (replicate times frame)) ≡ times * length frame
 frames-len zero frame = omega arith
 frames-len (suc times) frame = let more = frames-len times frame in omega (arith, length-append frame (concat (replicate times frame)), more)
 
--- at least the whole frames, and at least one
+-- silence has at least one frame for each time that a whole frame fits the ticks
 many : (frame size ticks : ℕ) → ticks / frame ≤ length (silent_samples frame size ticks)
 many frame size ticks =
     omega (arith, length-append (replicate (ticks / frame) (silent_sample frame size)) (last_silent (ticks - ticks / frame * frame) size), length-replicate (ticks / frame) (silent_sample frame size))
 
+-- if ticks are left, there is one last frame
 last-some : (ticks size : ℕ) → 0 < ticks → length (last_silent ticks size) ≡ 1
 last-some ticks size some = rw (ne_eqb ticks 0 (λ e. omega (arith, e, some))) refl
 
+-- silence for some ticks has at least one frame
 one-at-least : (frame size ticks : ℕ) → 0 < ticks → 0 < length (silent_samples frame size ticks)
 one-at-least frame size ticks some =
     let all = length-append (replicate (ticks / frame) (silent_sample frame size)) (last_silent (ticks - ticks / frame * frame) size) in
@@ -43,6 +46,7 @@ one-at-least frame size ticks some =
           omega (arith, all, whole, last)
     ]
 
+-- at least as many frames as can't fit make a unit longer than its limit
 too-long : (frames size count : ℕ) → may_fit frames size ≡ false → frames ≤ count → 0 < count → unit_limit < 88 + 16 * count + count * size
 too-long frames size count refused many some =
     elim (cases_Bool (nat_le frames 4194304)) [
@@ -60,6 +64,7 @@ too-long frames size count refused many some =
       ]
     ]
 
+-- silence whose whole frames can't fit isn't written
 silence-unwritten : (silent : List ℕ) (start ticks : ℕ) (source : Fragment) (first : Sample) (others : List Sample) → 0 < first.duration → 0 < ticks
     → may_fit (ticks / first.duration) (length silent) ≡ false → option_and_then written (silence_from silent source start ticks (first ∷ others)) ≡ None
 unfolding written
@@ -70,6 +75,7 @@ silence-unwritten silent start ticks source first others lasts some refused =
     let long : unit_limit < length (fragment_bytes made) = omega (arith, low, fragment-len made, frames-len (length frames) silent) in
     rw (lt-ltb 0 ticks some, lt-ltb 0 first.duration lasts) (rw (lt-leb (length (fragment_bytes made)) unit_limit long) refl)
 
+-- no filler of silence is made of a recorded unit if its whole frames can't fit
 pub silence-refused : (init : InitData) (unit silent : List ℕ) (start ticks : ℕ) (source : Fragment) (first : Sample) → Some source ≡ fragment_of init unit
     → 0 < length source.samples → first ≡ get_or source.samples 0 first → 0 < first.duration → 0 < ticks
     → may_fit (ticks / first.duration) (length silent) ≡ false → None ≡ silent_unit init unit silent start ticks
@@ -79,6 +85,7 @@ silence-refused init unit silent start ticks source first read some is lasts lon
     ∙ ap (λ (ss : List Sample). option_and_then written (silence_from silent source start ticks ss)) (next-sample source.samples 0 first some is)
     ∙ silence-unwritten silent start ticks source first (drop (0 + 1) source.samples) lasts long refused)
 
+-- a filler of silence is what is written of its frames, each as long as the first sample of the recorded unit
 pub silence-made : (init : InitData) (unit silent : List ℕ) (start ticks : ℕ) (source : Fragment) (first : Sample) → Some source ≡ fragment_of init unit
     → 0 < length source.samples → first ≡ get_or source.samples 0 first → 0 < first.duration → 0 < ticks
     → written (filler_of source start (silent_samples first.duration (length silent) ticks) (concat (replicate (length (silent_samples first.duration (length silent) ticks)) silent)))

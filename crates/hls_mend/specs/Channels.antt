@@ -9,13 +9,13 @@ use Rattle.hls_core_laws.specs.Outcome.{New, outcome_of}
 use Rattle.hls_core_laws.specs.State.{State, channel}
 use Rattle.hls_core_laws.specs.declared.event.Event.TheVariants.{Accept}
 
--- rendition r still has these units, and no others
+-- in this state, rendition r has exactly these units
 pub record HasUnits (s : State) (r : ℕ) (facts : List Facts) : Type 0 where
   pub lane : Lane
   pub at : slice_get (channel s).lanes r ≡ Some lane
   pub same : lane.facts ≡ facts
 
--- state a was seen, and the unit starts where the rendition ends in it. If a later state takes the unit, nothing was recorded in between
+-- if a unit starts where its rendition ended in state a, and a later state b takes it, then no unit was recorded in between
 abbrev pub SubmittedContinues : Type 0
 SubmittedContinues =
     (a b : State) (r : ℕ) (l : Lane) (f : Facts) (bytes : List ℕ) → IsState b → Extends a b → slice_get (channel a).lanes r ≡ Some l

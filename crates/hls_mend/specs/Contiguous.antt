@@ -12,13 +12,13 @@ abbrev pub AreJoined : ℕ → List ReadUnit → ℕ → Type 0
 AreJoined from [] to = from ≡ to
 AreJoined from (u ∷ us) to = (u.facts.start ≡ from) × AreJoined (u.facts.start + u.facts.duration) us to
 
--- a unit that starts at the end of its rendition is recorded as it was sent, and nothing else
+-- a unit that starts at the end of its rendition is recorded as it was sent, and nothing else is
 abbrev pub ContiguousIsKept : Type 0
 ContiguousIsKept =
     (settings : MendSettings) (init : InitData) (rec : RecordingData) (u : ReadUnit) → u.facts.start ≡ last_end rec.facts
     → mended_unit settings init rec u ≡ as_sent u
 
--- the fillers of a gap
+-- the fillers of a gap are joined from the end of the rendition up to a tick that isn't after the gap
 pub record FillGap (init : InitData) (rec : RecordingData) (start : ℕ) : Type 0 where
   pub to : ℕ
   pub joined : AreJoined (last_end rec.facts) (fillers_to init rec start) to

@@ -1,3 +1,5 @@
+-- What is recorded for a unit of a rendition that is mended: silence, spans, normal init sections, fillers and rewritten units, and the laws
+-- of their continuity.
 pub mod Views
 pub mod Silence
 pub mod Spans

@@ -9,6 +9,8 @@ use Rattle.hls_mend.specs.declared.unit_parts.UnitParts as units
 use Rattle.hls_mend.specs.declared.fragment.Fragment as fragments
 use Rattle.hls_mend.specs.declared.write.FragmentParts as writes
 
+-- the view of a box that was split off; below are those of a front, of the parts of a `traf`, a `moof` and a unit, and of a fragment
+-- that was read and one that is to be written
 abbrev pub split_view : splits.Split → Split
 split_view s = record { content = s.content.now; rest = s.rest.now }
 

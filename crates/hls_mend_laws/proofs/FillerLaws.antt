@@ -22,10 +22,11 @@ use Rattle.hls_mend_laws.proofs.FragmentLaws.{fragments-are-units, fragment-len}
 use Rattle.hls_mend_laws.proofs.SentLaws.{IsSent, is-sent}
 use Rattle.hls_mend_laws.proofs.RetimedLaws.{IsWritten, is-written}
 
+-- an empty front consists of loose boxes
 no-boxes : AreLooseBoxes []
 no-boxes = record { boxes = []; each = λ k d low. absurd (omega (arith, low)); joined = refl }
 
--- a fragment without boxes before its `moof` that lasts for the given ticks and fills its payload
+-- a filler with these samples is a unit with the facts of its span, if the samples last for `ticks` and fill the payload
 fills : (init : InitData) (unit made : List ℕ) (f : Facts) (source : Fragment) (start ticks : ℕ) (ss : List Sample) (payload : List ℕ) (sync : Bool) → IsSent init unit f source
     → All HasFields ss → total_duration ss ≡ ticks → total_size ss ≡ length payload → starts_with_sync ss ≡ sync → IsWritten (filler_of source start ss payload) made → IsTimeSpan init start ticks
     → IsUnit init made (span_facts init start ticks sync (length made))
@@ -47,6 +48,7 @@ fills init unit made f source start ticks ss payload sync s fields lasts filled 
 one-left : (n : ℕ) → n + 0 ≡ n
 one-left n = omega arith
 
+-- a filler that holds the first of the samples is a unit that covers `ticks` from `start`, and its sync fact is the recorded unit's
 held-by : (init : InitData) (unit made : List ℕ) (f : Facts) (start ticks : ℕ) (source filler : Fragment) (ss : List Sample) → source.samples ≡ ss → IsSent init unit f source → All HasFields source.samples
     → held_from source start ticks ss ≡ Some filler → IsWritten filler made → IsTimeSpan init start ticks → IsUnit init made (span_facts init start ticks f.sync (length made))
 held-by init unit made f start ticks source filler [] samples s fields is wrote fits = absurd (cc)
@@ -65,6 +67,7 @@ held-by init unit made f start ticks source filler (first ∷ others) samples s 
     (All-cons HasFields kept [] (record { duration = small; size = own.size; flags = own.flags; offset = own.offset }) (λ k d low. absurd (omega (arith, low))))
     lasts filled (s.sync_is first others samples) wrote' fits
 
+-- a filler that holds a sample covers exactly the ticks that it was made for
 pub held-units-fill : HeldUnitsFill
 unfolding held_unit
 held-units-fill init unit made f start ticks source is read fields made_is fits =
@@ -76,18 +79,21 @@ held-units-fill init unit made f start ticks source is read fields made_is fits 
 
 -- ---- silence
 
+-- the fields of a silent frame fit if its duration and its size fit 32 bits
 silent-fields : (ticks size : ℕ) → ticks < 2 ^ 32 → size < 2 ^ 32 → HasFields (silent_sample ticks size)
 silent-fields ticks size low small = record { duration = low; size = small; flags = omega arith; offset = omega arith }
 
 one-more : (n k : ℕ) → k + n * k ≡ suc n * k
 one-more n k = omega arith
 
+-- n frames of silence last n times as long as one
 repeated-lasts : (n frame size : ℕ) → total_duration (replicate n (silent_sample frame size)) ≡ n * frame
 repeated-lasts zero frame size = omega arith
 repeated-lasts (suc n) frame size =
     sum_by-cons (λ (s : Sample). s.duration) (silent_sample frame size) (replicate n (silent_sample frame size)) ∙ ap (λ k. frame + k) (repeated-lasts n frame size)
     ∙ one-more n frame
 
+-- the last frame of silence lasts for the ticks that are left
 last-lasts : (ticks size : ℕ) → total_duration (last_silent ticks size) ≡ ticks
 last-lasts ticks size =
     elim (cases_Bool (ticks == 0)) [
@@ -95,6 +101,7 @@ last-lasts ticks size =
       | inr e ↦ rw e (sum_by-cons (λ (s : Sample). s.duration) (silent_sample ticks size) [] ∙ one-left ticks)
     ]
 
+-- silence for the given ticks lasts exactly for these ticks
 silence-lasts : (frame size ticks : ℕ) → total_duration (silent_samples frame size ticks) ≡ ticks
 silence-lasts frame size ticks =
     let whole : ticks / frame * frame ≤ ticks = div-mul-le_self ticks frame in
@@ -103,7 +110,7 @@ silence-lasts frame size ticks =
     sum_by-append (λ (s : Sample). s.duration) (replicate (ticks / frame) (silent_sample frame size)) (last_silent (ticks - ticks / frame * frame) size)
     ∙ omega (arith, front, end, whole)
 
--- each frame has as many bytes as the silent one
+-- samples of `size` bytes each have their number times `size` bytes together
 each-size : (size : ℕ) (ss : List Sample) → All (λ (s : Sample). s.size ≡ size) ss → total_size ss ≡ length ss * size
 each-size size [] each = omega arith
 each-size size (s ∷ ss) each =
@@ -112,11 +119,12 @@ each-size size (s ∷ ss) each =
     ∙ ap (λ k. size + k) (each-size size ss (All-tail (λ (s : Sample). s.size ≡ size) s ss each))
     ∙ one-more (length ss) size
 
+-- n copies of the silent frame are n times as long as one
 repeated-len : (n : ℕ) (silent : List ℕ) → length (concat (replicate n silent)) ≡ n * length silent
 repeated-len zero silent = omega arith
 repeated-len (suc n) silent = length-append silent (concat (replicate n silent)) ∙ ap (λ k. length silent + k) (repeated-len n silent) ∙ one-more n (length silent)
 
--- a property of each frame
+-- what holds of the silent frame for the ticks that are left holds of the last frame, if there is one
 last-each : (P : Sample → Type 0) (ticks size : ℕ) → P (silent_sample ticks size) → All P (last_silent ticks size)
 last-each P ticks size has =
     elim (cases_Bool (ticks == 0)) [
@@ -124,11 +132,13 @@ last-each P ticks size has =
       | inr e ↦ rw e (All-cons P (silent_sample ticks size) [] has (λ k d low. absurd (omega (arith, low))))
     ]
 
+-- what holds of a whole frame and of the shorter one holds of each frame of silence
 silence-each : (P : Sample → Type 0) (frame size ticks : ℕ) → P (silent_sample frame size) → P (silent_sample (ticks - ticks / frame * frame) size) → All P (silent_samples frame size ticks)
 silence-each P frame size ticks whole rest =
     All-append P (replicate (ticks / frame) (silent_sample frame size)) (last_silent (ticks - ticks / frame * frame) size)
     (All-replicate P (ticks / frame) (silent_sample frame size) whole) (last-each P (ticks - ticks / frame * frame) size rest)
 
+-- the sizes of the frames of silence add up to the length of their payload: one copy of the silent frame for each
 silence-size : (frame ticks : ℕ) (silent : List ℕ) → total_size (silent_samples frame (length silent) ticks) ≡ length (concat (replicate (length (silent_samples frame (length silent) ticks)) silent))
 silence-size frame ticks silent =
     each-size (length silent) (silent_samples frame (length silent) ticks) (silence-each (λ (s : Sample). s.size ≡ length silent) frame (length silent) ticks refl refl)
@@ -139,17 +149,21 @@ silence-sync : (ss : List Sample) → All (λ (s : Sample). is_sync (Some s.flag
 silence-sync [] each some = absurd (omega (arith, some))
 silence-sync (s ∷ ss) each some = All-head (λ (s : Sample). is_sync (Some s.flags) ≡ true) s ss each
 
+-- after all whole frames, less than one frame is left
 rest-less : (ticks frame : ℕ) → 0 < frame → ticks - ticks / frame * frame < frame
 rest-less ticks frame some = let low : ticks < ticks / frame * frame + frame = lt-div-mul-add some in omega (arith, low)
 
+-- samples that last for some time are at least one
 frames-some : (ss : List Sample) → 0 < total_duration ss → 0 < length ss
 frames-some [] some = absurd (omega (arith, some))
 frames-some (s ∷ ss) some = omega arith
 
+-- a size is at most n times itself, if n is above 0
 size-less : (n size : ℕ) → 0 < n → size ≤ n * size
 size-less zero size some = absurd (omega (arith, some))
 size-less (suc n) size some = omega arith
 
+-- a filler of silence with frames as long as the first sample is a unit that covers `ticks` from `start` and starts with a sync sample
 silent-by : (init : InitData) (unit made silent : List ℕ) (f : Facts) (start ticks : ℕ) (source filler : Fragment) (ss : List Sample) → source.samples ≡ ss → IsSent init unit f source → All HasFields source.samples
     → silence_from silent source start ticks ss ≡ Some filler → IsWritten filler made → IsTimeSpan init start ticks → IsUnit init made (span_facts init start ticks true (length made))
 silent-by init unit made silent f start ticks source filler [] samples s fields is wrote fits = absurd (cc)
@@ -175,6 +189,7 @@ silent-by init unit made silent f start ticks source filler (first ∷ others) s
     (silence-sync frames (silence-each (λ (s : Sample). is_sync (Some s.flags) ≡ true) first.duration (length silent) ticks refl refl) (omega (arith, lasts, some)))
     wrote' fits
 
+-- a filler of silence covers exactly the ticks that it was made for
 pub silent-units-fill : SilentUnitsFill
 unfolding silent_unit
 silent-units-fill init unit made silent f start ticks source is read fields made_is fits =

@@ -29,6 +29,7 @@ use Rattle.hls_mend_laws.proofs.Options.{none-or-some, not-from}
 
 -- ---- lengths
 
+-- the content of a written `traf` is 48 bytes, the content of its `tfhd`, and 16 bytes for each sample
 pub traf-len : (f : Fragment) → length (traf_of f).content ≡ 48 + length f.head + 16 * length f.samples
 traf-len f =
     let tfhd = boxes-len (tfhd_of f) (tfdt_of f.start ∷ trun_of (payload_offset f) f.samples ∷ []) in
@@ -36,12 +37,14 @@ traf-len f =
     let trun = boxes-len (trun_of (payload_offset f) f.samples) [] in
     omega (arith, tfhd, tfdt, trun, trun-len (payload_offset f) f.samples)
 
+-- the content of a written `moof` is 72 bytes, the content of its `tfhd`, and 16 bytes for each sample
 pub moof-len : (f : Fragment) → length (moof_of f).content ≡ 72 + length f.head + 16 * length f.samples
 moof-len f =
     let mfhd = boxes-len (mfhd_of f) (traf_of f ∷ []) in
     let traf = boxes-len (traf_of f) [] in
     omega (arith, mfhd, traf, traf-len f)
 
+-- a written unit is as long as the boxes before its `moof`, the bytes from the `moof` to the payload, and the payload
 pub fragment-len : (f : Fragment) → length (fragment_bytes f) ≡ length f.front + (payload_offset f + length f.payload)
 unfolding fragment_bytes
 fragment-len f =
@@ -51,17 +54,18 @@ fragment-len f =
 
 -- ---- the layout
 
--- loose boxes before others don't change the layout
+-- a loose box before other boxes doesn't change their layout
 skip-loose : (b : Child) (bs : List Child) → (b.kind == moof_type) ≡ false → (b.kind == mdat_type) ≡ false → (b.kind == moov_type) ≡ false
     → layout_of_boxes (b ∷ bs) ≡ layout_of_boxes bs
 skip-loose b bs moof mdat moov = rw (moof, mdat, moov) refl
 
+-- a loose box before the boxes that were found, if any were, doesn't change their layout
 pub skip-mapped : (b : Child) (o : Option (List Child)) → (b.kind == moof_type) ≡ false → (b.kind == mdat_type) ≡ false → (b.kind == moov_type) ≡ false
     → option_and_then layout_of_boxes (option_map (λ more. b ∷ more) o) ≡ option_and_then layout_of_boxes o
 skip-mapped b None moof mdat moov = refl
 skip-mapped b (Some bs) moof mdat moov = skip-loose b bs moof mdat moov
 
--- one loose box before others
+-- one loose box before other bytes doesn't change their layout
 pub layout-after-box : (box rest : List ℕ) → IsLooseBox box
     → option_and_then layout_of_boxes (children (box ++ rest)) ≡ option_and_then layout_of_boxes (children rest)
 layout-after-box box rest loose =
@@ -73,6 +77,7 @@ layout-after-box box rest loose =
     ap (option_and_then layout_of_boxes) (children-step (box ++ rest) some)
     ∙ rw (found, behind) (skip-mapped (child_of loose.header (box ++ rest)) (children rest) loose.not_moof loose.not_mdat loose.not_moov)
 
+-- several loose boxes before other bytes don't change their layout
 layout-after : (boxes : List (List ℕ)) (rest : List ℕ) → All IsLooseBox boxes
     → option_and_then layout_of_boxes (children (concat boxes ++ rest)) ≡ option_and_then layout_of_boxes (children rest)
 layout-after [] rest each = refl
@@ -81,19 +86,21 @@ layout-after (b ∷ bs) rest each =
     ∙ layout-after-box b (concat bs ++ rest) (All-head IsLooseBox b bs each)
     ∙ layout-after bs rest (All-tail IsLooseBox b bs each)
 
+-- bytes that are loose boxes don't change the layout of the bytes after them
 pub layout-after-front : (front rest : List ℕ) → AreLooseBoxes front
     → option_and_then layout_of_boxes (children (front ++ rest)) ≡ option_and_then layout_of_boxes (children rest)
 layout-after-front front rest loose =
     ap (λ t. option_and_then layout_of_boxes (children (t ++ rest))) loose.joined ∙ layout-after loose.boxes rest loose.each
 
--- boxes whose type and length fit
+-- two small boxes are a list of small boxes
 two-small : (a b : Box) → IsSmallBox a → IsSmallBox b → All IsSmallBox (a ∷ b ∷ [])
 two-small a b first second = All-cons IsSmallBox a (b ∷ []) first (All-cons IsSmallBox b [] second (All-nil IsSmallBox))
 
+-- the layout of a written unit: its `moof`, and where its payload is
 abbrev pub layout_written : Fragment → Layout
 layout_written f = record { moof = (moof_of f).content; low = (8 + length (moof_of f).content) + 8; high = (8 + length (moof_of f).content) + (8 + length f.payload) }
 
--- the boxes at the top
+-- a written unit within the limit has the layout of its own `moof` and payload, if loose boxes precede its `moof`
 pub layout-written : (f : Fragment) → AreLooseBoxes f.front → length (fragment_bytes f) ≤ unit_limit → layout_of (fragment_bytes f) ≡ Some (layout_written f)
 unfolding layout_of fragment_bytes
 layout-written f loose short =
@@ -105,23 +112,29 @@ layout-written f loose short =
 
 -- ---- the `traf`
 
+-- the content of a fragment's `trun`
 abbrev pub run_of : Fragment → List ℕ
 run_of f = (trun_of (payload_offset f) f.samples).content
 
+-- the `traf` of a written unit, as it is read: its `tfhd`, its `tfdt` and its one `trun`
 unfoldable pub traf_written : Fragment → Traf
 traf_written f = record { head = f.head; time = Some (tfdt_of f.start).content; runs = run_of f ∷ [] }
 
+-- the fields of a written `tfdt` are within it
 pub tfdt-fits : (start : ℕ) → tfdt_fits (tfdt_of start).content ≡ true
 unfolding tfdt_fits
 tfdt-fits start = refl
 
+-- the decode time that is read of a written `tfdt` is its start
 pub tfdt-time : (start : ℕ) → start < 2 ^ 64 → decode_time (tfdt_of start).content ≡ start
 unfolding decode_time
 tfdt-time start fits = long-at 0x01000000 start fits
 
+-- the `trun` of a fragment says the fragment's samples and the offset of its payload, if that offset is below 2^31
 pub run-written : (f : Fragment) → payload_offset f < 2 ^ 31 → IsTrun (run_of f) (payload_offset f) f.samples
 run-written f near = is-trun (payload_offset f) f.samples (omega (arith, near)) (omega (arith, near))
 
+-- a written `traf` is read as its `tfhd`, its `tfdt` and its one `trun`
 traf-read : (f : Fragment) → payload_offset f < 2 ^ 31 → tfhd_fits f.head ≡ true → traf_at (traf_of f).content ≡ Some (traf_written f)
 unfolding traf_at traf_written
 traf-read f near fits =
@@ -132,6 +145,7 @@ traf-read f near fits =
     (All-cons IsSmallBox (tfhd_of f) (tfdt_of f.start ∷ trun_of (payload_offset f) f.samples ∷ []) tfhd (two-small (tfdt_of f.start) (trun_of (payload_offset f) f.samples) tfdt trun)) in
     rw read (rw (fits, tfdt-fits f.start, fits-trun (run_of f) (payload_offset f) f.samples (run-written f near)) refl)
 
+-- a written `moof` has exactly its one `traf`
 pub trafs-written : (f : Fragment) → payload_offset f < 2 ^ 31 → tfhd_fits f.head ≡ true → trafs_of (moof_of f).content ≡ Some (traf_written f ∷ [])
 unfolding trafs_of
 trafs-written f near fits =
@@ -141,7 +155,7 @@ trafs-written f near fits =
 
 -- ---- the facts
 
--- the run's bytes are the payload
+-- the bytes of a fragment's run are inside the content of the `mdat`, if its samples fill the payload
 extent-inside : (g : UnitContext) (d : Option ℕ) (f : Fragment) → IsTrun (run_of f) (payload_offset f) f.samples → payload_offset f < 2 ^ 31 → All HasFields f.samples
     → total_size f.samples ≡ length f.payload → g.low ≡ pos (payload_offset f) → g.high ≡ pos (payload_offset f + length f.payload)
     → lies_outside g (extent_of_run d (pos 0) (pos 0) (run_of f)) ≡ false
@@ -153,6 +167,7 @@ extent-inside g d f run near fields filled low high =
     let not-after : nat_lt (start + length f.payload) (0 + start + length f.payload) ≡ false = le-ltb (start + length f.payload) (0 + start + length f.payload) (omega arith) in
     rw (data-offset (run_of f) start f.samples run near, len, low, high) (rw (not-before, not-after) (and_right (nat_lt 0 (length f.payload)) false refl))
 
+-- no byte range of a fragment's unit is outside the content of the `mdat`, if its samples fill the payload
 inside-written : (g : UnitContext) (f : Fragment) → IsTrun (run_of f) (payload_offset f) f.samples → payload_offset f < 2 ^ 31 → All HasFields f.samples
     → total_size f.samples ≡ length f.payload → g.low ≡ pos (payload_offset f) → g.high ≡ pos (payload_offset f + length f.payload)
     → list_any (lies_outside g) (extents_of_unit g (pos 0) (traf_written f ∷ [])) ≡ false
@@ -165,6 +180,7 @@ inside-written g f run near fields filled low high =
 abbrev context_written : InitData → Fragment → UnitContext
 context_written init f = unit_context init (layout_written f)
 
+-- no cause of rejection applies to the `traf` of a whole fragment that has samples
 is-good : (init : InitData) (f : Fragment) (s : Sample) (ss : List Sample) → f.samples ≡ s ∷ ss → payload_offset f < 2 ^ 31 → IsWhole init f → IsGoodTraf (context_written init f) (traf_written f)
 unfolding traf_written
 is-good init f s ss samples near w =
@@ -196,6 +212,7 @@ is-good init f s ss samples near w =
       inside = inside-written g f run near w.fields w.filled (ap pos (omega (arith, moof-len f))) (ap pos (omega (arith, moof-len f)));
     }
 
+-- the facts that are read of a whole fragment's `traf` are the fragment's facts
 facts-are : (init : InitData) (f : Fragment) (s : Sample) (ss : List Sample) → f.samples ≡ s ∷ ss → payload_offset f < 2 ^ 31 → IsWhole init f
     → facts_if_good (context_written init f) (length (fragment_bytes f)) (traf_written f) ≡ fragment_facts init f
 unfolding traf_written
@@ -210,6 +227,7 @@ facts-are init f s ss samples near w =
     let flags = flags-read (flags_for g t) (run_of f) (payload_offset f) s ss first (All-head HasFields s ss fields) in
     rw (starts, lasts, flags) (rw samples refl)
 
+-- a whole fragment with these samples is a unit with the fragment's facts
 unit-of-samples : (init : InitData) (f : Fragment) (ss : List Sample) → f.samples ≡ ss → IsWhole init f → IsUnit init (fragment_bytes f) (fragment_facts init f)
 unfolding facts
 unit-of-samples init f [] none w =
@@ -221,5 +239,6 @@ unit-of-samples init f (s ∷ ss) samples w =
     rw (layout-written f w.loose w.short, trafs-written f near (and_parts (tfhd_fits f.head) _ w.head).0)
     (good-facts (context_written init f) (length (fragment_bytes f)) (traf_written f) (is-good init f s ss samples near w) ∙ ap Ok (facts-are init f s ss samples near w))
 
+-- a whole fragment that is written is a unit with the fragment's facts
 pub fragments-are-units : FragmentsAreUnits
 fragments-are-units init f w = unit-of-samples init f f.samples refl w

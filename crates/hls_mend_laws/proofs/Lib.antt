@@ -1,3 +1,5 @@
+-- Lemmas on mending: the boxes of a written fragment and how they are read again, the samples of retimed and cut units and of fillers,
+-- how a unit is treated, and jumps.
 mod Words
 mod Options
 mod BoxLaws

@@ -9,7 +9,7 @@ use Rattle.hls_media_laws.specs.TrafFacts.{UnitContext, is_unknown, has_base_off
 use Rattle.hls_media_laws.specs.declared.facts.Facts.{Facts}
 use Rattle.hls_media_laws.specs.UnitFacts.{timing_traf, no_traf, is_empty, is_too_large, causes, facts_if_good, facts_with}
 
--- none of the causes applies
+-- no cause of rejection applies to a unit with this one `traf`
 pub record IsGoodTraf (g : UnitContext) (t : Traf) : Type 0 where
   pub known : is_unknown g t ≡ false
   pub no_base : has_base_offset t ≡ false
@@ -20,19 +20,20 @@ pub record IsGoodTraf (g : UnitContext) (t : Traf) : Type 0 where
   pub early : is_too_large g t ≡ false
   pub inside : list_any (lies_outside g) (extents_of_unit g (pos 0) (t ∷ [])) ≡ false
 
--- a `traf` of the timing track is the timing track's first
+-- a unit's only `traf`, if it is of the timing track, is the timing track's first
 timing-alone : (g : UnitContext) (t : Traf) → is_timing g t ≡ true → timing_traf g (t ∷ []) ≡ t
 timing-alone g t timing =
     let alone : filter (is_timing g) (t ∷ []) ≡ t ∷ [] = rw timing refl in
     ap (λ (ts : List Traf). slice_index_or ts 0 no_traf) alone
 
+-- if no cause of rejection applies, a unit with one `traf` has the facts that are read of it
 pub good-facts : (g : UnitContext) (len : ℕ) (t : Traf) → IsGoodTraf g t → facts_with g len (Some (t ∷ [])) ≡ Ok (facts_if_good g len t)
 good-facts g len t good =
     rw (timing-alone g t good.timing, good.known, good.no_base, good.timing, good.timed, good.valued, good.lasting, good.early, good.inside) refl
 
 -- ---- the other way round
 
--- a value isn't replaced by a fault: no cause applies
+-- if the result is a value and not a fault, no cause applies, and the value is the given one
 no-fault : {A : Type 0} (cs : List Cause) (x y : A) → first_fault_or cs x ≡ Ok y → (list_any (λ (c : Cause). c.present) cs ≡ false) × (x ≡ y)
 no-fault [] x y is = (refl, cc)
 no-fault (c ∷ cs) x y is =
@@ -44,6 +45,7 @@ no-fault (c ∷ cs) x y is =
           (or_from c.present (list_any (λ (c : Cause). c.present) cs) not-this rest.0, rest.1)
     ]
 
+-- if a unit with one `traf` has one of the timing track, it is that `traf`
 is-timing-track : (g : UnitContext) (t : Traf) → (length (filter (is_timing g) (t ∷ [])) == 0) ≡ false → is_timing g t ≡ true
 is-timing-track g t some =
     elim (cases_Bool (is_timing g t)) [
@@ -54,10 +56,12 @@ is-timing-track g t some =
 alone : (b : Bool) → (b || false) ≡ false → b ≡ false
 alone b is = (or_parts b false is).0
 
+-- a unit with one `traf` has these facts: no cause of rejection applies, and they are those that are read of the `traf`
 pub record HasFacts (g : UnitContext) (len : ℕ) (t : Traf) (f : Facts) : Type 0 where
   pub good : IsGoodTraf g t
   pub facts_are : facts_if_good g len t ≡ f
 
+-- a unit with one `traf` has facts only if no cause of rejection applies, and then those that are read of it
 pub has-facts : (g : UnitContext) (len : ℕ) (t : Traf) (f : Facts) → facts_with g len (Some (t ∷ [])) ≡ Ok f → HasFacts g len t f
 has-facts g len t f is =
     let first = timing_traf g (t ∷ []) in

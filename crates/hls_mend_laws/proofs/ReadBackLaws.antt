@@ -26,29 +26,35 @@ use Rattle.hls_mend_laws.proofs.FragmentLaws.{traf-len, moof-len, fragment-len, 
 
 -- ---- one box
 
+-- the first of several written boxes is split off by its type, and the others are the rest
 split-read : (b : Box) (bs : List Box) → IsSmallBox b → split_box b.kind (boxes_bytes (b ∷ bs)) ≡ Some (record { content = b.content; rest = boxes_bytes bs })
 unfolding split_box
 split-read b bs small =
     let same : (b.kind == b.kind) ≡ true = eq-eqb b.kind b.kind refl in
     rw (box-read b (boxes_bytes bs) small, same, content-read b (boxes_bytes bs), rest-read b (boxes_bytes bs)) refl
 
+-- a written box that nothing follows is read as the only box of its type
 only-read : (b : Box) → IsSmallBox b → only_box b.kind (boxes_bytes (b ∷ [])) ≡ Some b.content
 unfolding only_box
 only-read b small = rw (split-read b [] small) refl
 
 -- ---- the boxes before the `moof`
 
+-- the front with these bytes kept before those of another front
 abbrev after : List ℕ → Option Front → Option Front
 after kept o = option_map (λ (f : Front). record { kept = kept ++ f.kept; rest = f.rest }) o
 
+-- keeping no bytes before a front leaves it as it is
 after-nothing : (o : Option Front) → o ≡ after [] o
 after-nothing None = refl
 after-nothing (Some f) = refl
 
+-- keeping bytes before a front twice is keeping both, one after the other
 after-both : (a b : List ℕ) (o : Option Front) → after a (after b o) ≡ after (a ++ b) o
 after-both a b None = refl
 after-both a b (Some f) = ap (λ (xs : List ℕ). Some (record { kept = xs; rest = f.rest })) (sym (append_assoc a b f.kept))
 
+-- a kept box before other bytes is kept before the front of these bytes
 front-box : (box rest : List ℕ) → IsKeptBox box → front_of (box ++ rest) ≡ after box (front_of rest)
 front-box box rest k =
     let h = k.loose.header in
@@ -59,6 +65,7 @@ front-box box rest k =
     ∙ ap (λ (xs : List ℕ). after xs (front_of (drop h.size (box ++ rest)))) (take_at box rest h.size k.loose.whole)
     ∙ ap (λ (xs : List ℕ). after box (front_of xs)) (drop_at box rest h.size k.loose.whole)
 
+-- several kept boxes before other bytes are all kept before the front of these bytes
 front-boxes : (boxes : List (List ℕ)) (rest : List ℕ) → All IsKeptBox boxes → front_of (concat boxes ++ rest) ≡ after (concat boxes) (front_of rest)
 front-boxes [] rest each = after-nothing (front_of rest)
 front-boxes (b ∷ bs) rest each =
@@ -69,9 +76,11 @@ front-boxes (b ∷ bs) rest each =
 
 -- ---- the boxes of the `moof`
 
+-- the parts of a fragment's `traf`, as they are read
 abbrev parts_of : Fragment → TrafParts
 parts_of f = record { head = f.head; time = (tfdt_of f.start).content; run = run_of f }
 
+-- the parts of a written `traf` are read as they were written
 traf-parts : (f : Fragment) → payload_offset f < 2 ^ 31 → traf_parts (traf_of f).content ≡ Some (parts_of f)
 unfolding traf_parts
 traf-parts f near =
@@ -81,6 +90,7 @@ traf-parts f near =
     let head = split-read (tfhd_of f) (tfdt_of f.start ∷ trun ∷ []) (record { kind = omega arith; len = omega (arith, near) }) in
     rw (head, time, run) refl
 
+-- the sequence number and the parts of the `traf` in a written `moof` are read as they were written
 moof-parts : (f : Fragment) → payload_offset f < 2 ^ 31 → f.number < 2 ^ 32 → moof_parts (moof_of f).content ≡ Some (record { number = f.number; traf = parts_of f })
 unfolding moof_parts
 moof-parts f near fits =
@@ -89,12 +99,15 @@ moof-parts f near fits =
     let number : number_at w32 4 (mfhd_of f).content ≡ f.number = word-at (0 ∷ []) f.number [] 4 refl fits in
     rw (mfhd, traf, traf-parts f near, number) refl
 
+-- the parts of the unit that a fragment is written as
 abbrev unit_of : Fragment → UnitParts
 unit_of f = record { front = f.front; moof = record { number = f.number; traf = parts_of f }; payload = f.payload }
 
+-- the bytes of a fragment's `moof` and `mdat`
 abbrev body_of : Fragment → List ℕ
 body_of f = boxes_bytes (moof_of f ∷ mdat_of f ∷ [])
 
+-- a written `moof` and `mdat` after this front are read as the fragment's parts with this front
 body-parts : (f : Fragment) (front : List ℕ) → payload_offset f + length f.payload < 2 ^ 31 → f.number < 2 ^ 32
     → with_moof (record { kept = front; rest = body_of f }) ≡ Some (record (unit_of f) { front = front })
 body-parts f front near fits =
@@ -102,6 +115,7 @@ body-parts f front near fits =
     let payload = only-read (mdat_of f) (record { kind = omega arith; len = omega (arith, near) }) in
     rw (moof, moof-parts f (omega (arith, near)) fits, payload) refl
 
+-- the parts of a complete fragment's unit are read as they were written
 unit-parts : (f : Fragment) → IsComplete f → unit_parts (fragment_bytes f) ≡ Some (unit_of f)
 unfolding unit_parts fragment_bytes
 unit-parts f c =
@@ -115,6 +129,7 @@ unit-parts f c =
 
 -- ---- the samples
 
+-- the format of the rows that mending writes: they have every field
 abbrev all_columns : SampleDefaults → RowFormat
 all_columns d = record {
   duration = record { present = true; default = unwrap_or d.duration 0 };
@@ -123,6 +138,7 @@ all_columns d = record {
   offset = record { present = true; default = 0 };
 }
 
+-- the rows of a written `trun` have every field
 format-read : (d : SampleDefaults) (run : List ℕ) (offset : ℕ) (ss : List Sample) → IsTrun run offset ss → row_format d run ≡ Some (all_columns d)
 unfolding row_format
 format-read d run offset ss t =
@@ -135,6 +151,7 @@ format-read d run offset ss t =
     } in
     rw t.flags (ap (λ (b : Bool). Some (columns b)) offsets)
 
+-- the first row of a written table is read as the sample that it was written for
 sample-read : (d : SampleDefaults) (s : Sample) (ss : List Sample) → HasFields s → row_sample (all_columns d) (table (s ∷ ss)) ≡ s
 sample-read d s ss fits =
     let others = flat_map row ss in
@@ -144,6 +161,7 @@ sample-read d s ss fits =
     let offset : number_at w32 0 (words (s.offset ∷ others)) ≡ s.offset = word-at [] s.offset (words others) 0 refl fits.offset in
     rw (duration, size, flags, offset) refl
 
+-- all rows of a written table are read as the samples that they were written for
 table-read : (d : SampleDefaults) (ss : List Sample) → All HasFields ss → rows_samples (length ss) (all_columns d) (table ss) ≡ ss
 unfolding rows_samples
 table-read d [] fits = refl
@@ -152,28 +170,33 @@ table-read d (s ∷ ss) fits =
     let others = table-read d ss (All-tail HasFields s ss fits) in
     rw (first, others) refl
 
+-- the samples of a written `trun` are read as they were, whatever the defaults
 run-read : (d : SampleDefaults) (run : List ℕ) (offset : ℕ) (ss : List Sample) → IsTrun run offset ss → All HasFields ss → run_samples d run ≡ Some ss
 unfolding run_samples
 run-read d run offset ss t fits =
     rw (format-read d run offset ss t, no-first-flags run offset ss t, t.count, rows-start run offset ss t, t.rows) (ap Some (table-read d ss fits))
 
+-- every composition offset is kept if offsets are signed
 all-kept : (ss : List Sample) → list_all (keeps_offset true) ss ≡ true
 all-kept [] = refl
 all-kept (s ∷ ss) = all-kept ss
 
 -- ---- the fragment
 
+-- the parts of a complete fragment's unit are readable: all fields fit, and there are no more samples than payload bytes
 readable : (f : Fragment) → IsTrun (run_of f) (payload_offset f) f.samples → IsComplete f → is_readable (unit_of f) ≡ true
 readable f t c =
     let count : nat_le (length f.samples) (length f.payload) ≡ true = le-leb (length f.samples) (length f.payload) c.few in
     rw (c.head, tfdt-fits f.start, fits-trun (run_of f) (payload_offset f) f.samples t, t.count, count) refl
 
+-- the parts of a complete fragment's unit with its samples are that fragment
 checked : (f : Fragment) → IsComplete f → checked_fragment (unit_of f) f.samples ≡ Some f
 checked f c =
     let full : (total_size f.samples == length f.payload) ≡ true = eq-eqb (total_size f.samples) (length f.payload) c.filled in
     let kept : keeps_offsets (run_of f) f.samples ≡ true = all-kept f.samples in
     rw (full, kept, tfdt-time f.start c.start) refl
 
+-- a complete fragment that is written is read again as it was
 pub fragments-are-read-back : FragmentsAreReadBack
 unfolding fragment_of
 fragments-are-read-back init f c =

@@ -19,11 +19,13 @@ use Rattle.hls_mend_laws.proofs.Options.{and-then, mapped, if-so}
 
 -- ---- boxes one after another
 
+-- the bytes begin with a complete box that has this header
 pub record Whole (bytes : List ℕ) (h : BoxHeader) : Type 0 where
   pub starts : header_at bytes ≡ Some h
   pub fits : h.head ≤ h.size
   pub within : h.size ≤ length bytes
 
+-- a header that is accepted was read, and its size is at least its own length and at most `len`
 whole-by : (len : ℕ) (o : Option BoxHeader) (h : BoxHeader) → whole_box_header len o ≡ Some h → (o ≡ Some h) × (h.head ≤ h.size) × (h.size ≤ len)
 whole-by len None h is = absurd (cc)
 whole-by len (Some k) h is =
@@ -37,17 +39,21 @@ whole-by len (Some k) h is =
           (some, subst (λ (x : BoxHeader). x.head ≤ x.size) same low, subst (λ (x : BoxHeader). x.size ≤ len) same high)
     ]
 
+-- a box that is found at the start of bytes is complete
 pub whole-of : (bytes : List ℕ) (h : BoxHeader) → box_at bytes ≡ Some h → Whole bytes h
 unfolding box_at
 whole-of bytes h is = let w = whole-by (length bytes) (header_at bytes) h is in record { starts = w.0; fits = w.1; within = w.2 }
 
+-- bytes that begin with a complete box aren't empty
 pub some-bytes : (bytes : List ℕ) (h : BoxHeader) → Whole bytes h → 0 < length bytes
 some-bytes bytes h w = let within = header_at-within bytes h w.starts in omega (arith, within.0, within.1)
 
+-- the boxes of the bytes are one of this type with the split's content, and then the boxes of its rest
 record IsSplit (kind : ℕ) (bytes : List ℕ) (s : Split) : Type 0 where
   head : ℕ
   boxes : children bytes ≡ option_map (λ more. record { kind = kind; head = head; content = s.content } ∷ more) (children s.rest)
 
+-- the same by the header that is found: if a box of this type is split off, the bytes are that box and those of its rest
 split-by : (kind : ℕ) (bytes : List ℕ) (s : Split) (o : Option BoxHeader) → box_at bytes ≡ o → split_at kind bytes o ≡ Some s → IsSplit kind bytes s
 split-by kind bytes s None found is = absurd (cc)
 split-by kind bytes s (Some h) found is =
@@ -66,10 +72,12 @@ split-by kind bytes s (Some h) found is =
           })
     ]
 
+-- if a box of this type can be split off, the bytes are that box and the boxes of its rest
 split : (kind : ℕ) (bytes : List ℕ) (s : Split) → split_box kind bytes ≡ Some s → IsSplit kind bytes s
 unfolding split_box
 split kind bytes s is = split-by kind bytes s (box_at bytes) refl is
 
+-- the bytes are exactly one box of this type with this content
 record IsOnly (kind : ℕ) (bytes content : List ℕ) : Type 0 where
   head : ℕ
   boxes : children bytes ≡ Some (record { kind = kind; head = head; content = content } ∷ [])
@@ -78,6 +86,7 @@ empty-of : (bytes : List ℕ) → (length bytes == 0) ≡ true → bytes ≡ []
 empty-of [] is = refl
 empty-of (b ∷ bytes) is = absurd (omega (arith, eqb-true (length (b ∷ bytes)) 0 is))
 
+-- if a box was split off and nothing follows it, the bytes are exactly that box
 only-by : (kind : ℕ) (bytes content : List ℕ) (o : Option Split) → split_box kind bytes ≡ o → last_content o ≡ Some content → IsOnly kind bytes content
 only-by kind bytes content None found is = absurd (cc)
 only-by kind bytes content (Some s) found is =
@@ -92,15 +101,18 @@ only-by kind bytes content (Some s) found is =
           subst (IsOnly kind bytes) same (record { head = one.head; boxes = one.boxes ∙ rw last refl })
     ]
 
+-- bytes from which this content is read as that of the only box are exactly one such box
 only : (kind : ℕ) (bytes content : List ℕ) → only_box kind bytes ≡ Some content → IsOnly kind bytes content
 unfolding only_box
 only kind bytes content is = only-by kind bytes content (split_box kind bytes) refl is
 
 -- ---- the traf, the moof and the unit
 
+-- the `traf` that has these parts
 abbrev pub traf_of_parts : TrafParts → Traf
 traf_of_parts p = record { head = p.head; time = Some p.time; runs = p.run ∷ [] }
 
+-- a `traf` whose parts are read and fit is valid, and has exactly these parts
 traf-read : (traf : List ℕ) (p : TrafParts) → traf_parts traf ≡ Some p → traf_fits p ≡ true → traf_at traf ≡ Some (traf_of_parts p)
 unfolding traf_parts traf_at
 traf-read traf p is fits =
@@ -117,12 +129,15 @@ traf-read traf p is fits =
     let last = and_parts (tfdt_fits t.x.content) (trun_fits r.x) parts.1 in
     rw all (rw (parts.0, last.0, last.1) (ap (λ (q : TrafParts). Some (traf_of_parts q)) r.then))
 
+-- if the fields of its `traf` fit, a `moof` has exactly that one `traf`
 record IsMoof (moof : List ℕ) (m : MoofParts) : Type 0 where
   trafs : traf_fits m.traf ≡ true → trafs_of moof ≡ Some (traf_of_parts m.traf ∷ [])
 
+-- reading the sequence number of a `moof` doesn't change the parts of its `traf`
 number-kept : (mfhd : List ℕ) (t : TrafParts) (m : MoofParts) → with_number mfhd t ≡ Some m → t ≡ m.traf
 number-kept mfhd t m is = ap (λ (x : MoofParts). x.traf) (if-so (nat_le 8 (length mfhd)) _ m is).1
 
+-- a `moof` whose parts are read has exactly their one `traf`, if the fields of that fit
 moof-read : (moof : List ℕ) (m : MoofParts) → moof_parts moof ≡ Some m → IsMoof moof m
 unfolding moof_parts trafs_of
 moof-read moof m is =
@@ -142,24 +157,29 @@ moof-read moof m is =
 
 -- ---- the boxes before the moof
 
+-- what is kept of the front is loose boxes, and the layout of the bytes is that of the rest
 record IsFront (bytes : List ℕ) (f : Front) : Type 0 where
   layout : option_and_then layout_of_boxes (children bytes) ≡ option_and_then layout_of_boxes (children f.rest)
   loose : AreLooseBoxes f.kept
 
+-- an empty front before the same bytes
 front-here : (bytes : List ℕ) → IsFront bytes (record { kept = []; rest = bytes })
 front-here bytes = record { layout = refl; loose = record { boxes = []; each = λ k d low. absurd (omega (arith, low)); joined = refl } }
 
+-- the header of a box that isn't `moof`, `moov` or `mdat`
 record IsLooseHeader (h : BoxHeader) : Type 0 where
   moof : (h.kind == moof_type) ≡ false
   moov : (h.kind == moov_type) ≡ false
   mdat : (h.kind == mdat_type) ≡ false
 
+-- a loose box at the start of bytes doesn't change the layout of those after it
 front-skip : (bytes : List ℕ) (h : BoxHeader) → box_at bytes ≡ Some h → IsLooseHeader h
     → option_and_then layout_of_boxes (children bytes) ≡ option_and_then layout_of_boxes (children (drop h.size bytes))
 front-skip bytes h found loose =
     ap (option_and_then layout_of_boxes) (children-step bytes (some-bytes bytes h (whole-of bytes h found)))
     ∙ rw found (skip-mapped (child_of h bytes) (children (drop h.size bytes)) loose.moof loose.mdat loose.moov)
 
+-- the bytes of a complete box with such a header are a loose box
 loose-box : (bytes : List ℕ) (h : BoxHeader) → box_at bytes ≡ Some h → IsLooseHeader h → IsLooseBox (take h.size bytes)
 loose-box bytes h found loose =
     let w = whole-of bytes h found in
@@ -175,6 +195,7 @@ loose-box bytes h found loose =
       not_mdat = loose.mdat;
     }
 
+-- a loose box and the front of the bytes after it are a front of the bytes from that box on
 front-more : (bytes : List ℕ) (h : BoxHeader) (f : Front) → box_at bytes ≡ Some h → IsLooseHeader h → IsFront (drop h.size bytes) f
     → IsFront bytes (record { kept = take h.size bytes ++ f.kept; rest = f.rest })
 front-more bytes h f found loose is = record {
@@ -186,6 +207,7 @@ front-more bytes h f found loose is = record {
   };
 }
 
+-- if the reader of the other boxes only finds fronts of loose boxes that keep the layout, so does the reader of one box more
 front-by : (others : List ℕ → Option Front) (bytes : List ℕ) (f : Front) (o : Option BoxHeader) → box_at bytes ≡ o
     → ((rest : List ℕ) (g : Front) → others rest ≡ Some g → IsFront rest g) → front_after others bytes o ≡ Some f → IsFront bytes f
 front-by others bytes f None found more is = absurd (cc)
@@ -212,23 +234,27 @@ front-by others bytes f (Some h) found more is =
       ]
     ]
 
+-- a front that is found within a bound consists of loose boxes and leaves the layout as it is
 front-within : (most : ℕ) (bytes : List ℕ) (f : Front) → front_within most bytes ≡ Some f → IsFront bytes f
 unfolding front_within
 front-within zero bytes f is = absurd (cc)
 front-within (suc most) bytes f is = front-by (front_within most) bytes f (box_at bytes) refl (front-within most) is
 
+-- the front that is found of a unit consists of loose boxes and leaves the layout as it is
 front : (unit : List ℕ) (f : Front) → front_of unit ≡ Some f → IsFront unit f
 unfolding front_of
 front unit f is = front-within (suc (length unit)) unit f is
 
 -- ---- the whole unit
 
+-- a unit whose parts were read has a layout, its `moof` has exactly their one `traf` if that fits, and its front is loose boxes
 pub record IsRead (unit : List ℕ) (u : UnitParts) : Type 0 where
   pub layout : Layout
   pub laid : option_and_then layout_of_boxes (children unit) ≡ Some layout
   pub trafs : traf_fits u.moof.traf ≡ true → trafs_of layout.moof ≡ Some (traf_of_parts u.moof.traf ∷ [])
   pub loose : AreLooseBoxes u.front
 
+-- a unit whose parts are read has a layout with their one `traf`, and only loose boxes before its `moof`
 pub unit-read : (unit : List ℕ) (u : UnitParts) → unit_parts unit ≡ Some u → IsRead unit u
 unfolding unit_parts
 unit-read unit u is =

@@ -17,17 +17,19 @@ use Rattle.hls_mend_laws.proofs.Options.{and-then, mapped, if-so}
 use Rattle.hls_mend_laws.proofs.FragmentLaws.{fragments-are-units}
 use Rattle.hls_mend_laws.proofs.SentLaws.{IsSent, is-sent}
 
+-- these bytes are a fragment as it is written, within the limit of a unit
 pub record IsWritten (f : Fragment) (made : List ℕ) : Type 0 where
   pub bytes : made ≡ fragment_bytes f
   pub short : length (fragment_bytes f) ≤ unit_limit
 
+-- what is written of a fragment is its bytes, within the limit of a unit
 pub is-written : (f : Fragment) (made : List ℕ) → written f ≡ Some made → IsWritten f made
 unfolding written
 is-written f made is =
     let w = if-so (nat_le (length (fragment_bytes f)) unit_limit) (fragment_bytes f) made is in
     record { bytes = sym w.1; short = leb-true _ _ w.0 }
 
--- the fragment that is written again
+-- the fragment that is written again: the sent one from another start, whose first sample lasts for some time and ends as before
 record IsMoved (sent : Fragment) (start : ℕ) (again : Fragment) : Type 0 where
   first : Sample
   others : List Sample
@@ -38,6 +40,7 @@ record IsMoved (sent : Fragment) (start : ℕ) (again : Fragment) : Type 0 where
   same_end : start + duration ≡ sent.start + first.duration
   is : moved sent start first others duration ≡ again
 
+-- a fragment that is retimed is the sent one from another start, whose first sample ends as before
 moved-by : (sent : Fragment) (start : ℕ) (again : Fragment) (ss : List Sample) → sent.samples ≡ ss → retimed_from sent start ss ≡ Some again → IsMoved sent start again
 moved-by sent start again [] samples is = absurd (cc)
 moved-by sent start again (first ∷ others) samples is =
@@ -57,6 +60,7 @@ moved-by sent start again (first ∷ others) samples is =
       is = m.then;
     }
 
+-- a unit was written again: it was read as a fragment, that was moved, and the moved one was written
 record IsAgain (init : InitData) (unit made : List ℕ) (start : ℕ) : Type 0 where
   sent : Fragment
   read : fragment_of init unit ≡ Some sent
@@ -64,6 +68,7 @@ record IsAgain (init : InitData) (unit made : List ℕ) (start : ℕ) : Type 0 w
   move : IsMoved sent start again
   wrote : IsWritten again made
 
+-- a unit that is retimed was read, moved and written
 is-again : (init : InitData) (unit made : List ℕ) (start : ℕ) → retimed_unit init unit start ≡ Some made → IsAgain init unit made start
 unfolding retimed_unit
 is-again init unit made start is =
@@ -71,6 +76,7 @@ is-again init unit made start is =
     let r = and-then (retimed start) (fragment_of init unit) w.x w.is in
     record { sent = r.x; read = r.is; again = w.x; move = moved-by r.x start w.x r.x.samples refl r.then; wrote = is-written w.x made w.then }
 
+-- a unit's fragment that is moved is whole if it is within the limit of a unit and lasts for some microseconds
 whole-again : (init : InitData) (unit : List ℕ) (f : Facts) (start : ℕ) (sent : Fragment) (again : Fragment) → IsSent init unit f sent → All HasFields sent.samples → (m : IsMoved sent start again)
     → length (fragment_bytes (moved sent start m.first m.others m.duration)) ≤ unit_limit → floor_us start f.scale ≢ f.end_us
     → IsWhole init (moved sent start m.first m.others m.duration)
@@ -98,6 +104,7 @@ whole-again init unit f start sent again s fields m short some =
       };
     }
 
+-- a unit that is written again keeps its facts, but for its start, its duration and its length
 pub retimed-keep-facts : RetimedKeepFacts
 retimed-keep-facts init unit made f start sent is read fields retimed some =
     let a = is-again init unit made start retimed in
@@ -127,6 +134,7 @@ retimed-keep-facts init unit made f start sent is read fields retimed some =
       },
     )
 
+-- the bytes of a unit's fragment that is moved and written have the samples that were sent, but for the first one's duration
 same-of : (init : InitData) (unit made : List ℕ) (start : ℕ) (sent again : Fragment) → fragment_of init unit ≡ Some sent → (m : IsMoved sent start again) → IsWritten again made → IsRetimed init unit made start
 same-of init unit made start sent again read m wrote = record {
   sent = sent;
@@ -139,6 +147,7 @@ same-of init unit made start sent again read m wrote = record {
   bytes = wrote.bytes ∙ ap fragment_bytes (sym m.is);
 }
 
+-- a unit that is written again keeps its samples and their bytes, but for the duration of the first
 pub retimed-keep-samples : RetimedKeepSamples
 retimed-keep-samples init unit made start is =
     let a = is-again init unit made start is in

@@ -21,22 +21,24 @@ use Rattle.hls_mend_laws.proofs.Options.{and-then, mapped}
 
 -- ---- rows
 
--- a row is as long as its fields
+-- dropping four fields one after another drops the sum of their lengths
 after-fields : (a b c d : ℕ) (bytes : List ℕ) → drop d (drop c (drop b (drop a bytes))) ≡ drop (a + b + c + d) bytes
 after-fields a b c d bytes =
     ap (λ (xs : List ℕ). drop d (drop c xs)) (drop-drop b a bytes) ∙ ap (λ (xs : List ℕ). drop d xs) (drop-drop c (a + b) bytes) ∙ drop-drop d (a + b + c) bytes
 
+-- the bytes after a row are those from its width on
 pub after-row : (form : RowFormat) (bytes : List ℕ) → after_row form bytes ≡ drop (row_width form) bytes
 after-row form bytes =
     after-fields (field_width form.duration.present) (field_width form.size.present) (field_width form.flags.present) (field_width form.offset.present) bytes
 
 -- ---- the format of the rows
 
--- a column that rows have, or that has a default
+-- a column is the one that these flags and this default give: rows have it, or its value is the default
 record IsColumn (present : Bool) (default : Option ℕ) (c : Column) : Type 0 where
   present_is : c.present ≡ present
   default_is : present ≡ false → default ≡ Some c.default
 
+-- a column that is read is the one that the flags and the default give
 is-column : (present : Bool) (default : Option ℕ) (c : Column) → reads.column present default ≡ Some c → IsColumn present default c
 is-column true default c is =
     let same : record { present = true; default = unwrap_or default 0 } ≡ c = cc in
@@ -46,12 +48,14 @@ is-column false (Some value) c is =
     let same : record { present = false; default = value } ≡ c = cc in
     subst (IsColumn false (Some value)) same (record { present_is = refl; default_is = λ e. refl })
 
+-- a format is the one that a run's flags and the defaults give
 record IsFormat (d : SampleDefaults) (run : List ℕ) (form : RowFormat) : Type 0 where
   duration : IsColumn (has_flag run sample_duration_present) d.duration form.duration
   size : IsColumn (has_flag run sample_size_present) d.size form.size
   flags : IsColumn (has_flag run sample_flags_present) d.flags form.flags
   offset : form.offset.present ≡ has_flag run sample_composition_time_offsets_present
 
+-- a format that is read of a run is the one that its flags and the defaults give
 is-format : (d : SampleDefaults) (run : List ℕ) (form : RowFormat) → row_format d run ≡ Some form → IsFormat d run form
 unfolding row_format
 is-format d run form is =
@@ -66,14 +70,14 @@ is-format d run form is =
       offset = refl;
     })
 
--- rows are as long as the `trun` says
+-- rows are as long by their format as the `trun` says
 row-width : (d : SampleDefaults) (run : List ℕ) (form : RowFormat) → IsFormat d run form → row_width form ≡ row_len run
 unfolding row_len
 row-width d run form is = rw (is.duration.present_is, is.size.present_is, is.flags.present_is, is.offset) refl
 
 -- ---- the durations
 
--- of rows that have them
+-- if rows have durations, their samples last for the sum of the run's column of durations
 lasts-by-rows : (n : ℕ) (form : RowFormat) (bytes : List ℕ) (len : ℕ) → form.duration.present ≡ true → row_width form ≡ len
     → total_duration (rows_samples n form bytes) ≡ total (map Some (column n len 0 bytes))
 unfolding rows_samples column
@@ -88,7 +92,7 @@ lasts-by-rows (suc n) form bytes len present long =
     ∙ ap (λ k. number_at w32 0 bytes + k) more
     ∙ sym (sum_by-cons (λ (v : Option ℕ). unwrap_or v 0) (Some (number_at w32 0 bytes)) (map Some (column n len 0 (drop len bytes))))
 
--- of rows that don't
+-- if rows have no durations, each of their samples lasts for the default
 lasts-by-default : (n : ℕ) (form : RowFormat) (bytes : List ℕ) → form.duration.present ≡ false
     → total_duration (rows_samples n form bytes) ≡ total (replicate n (Some form.duration.default))
 unfolding rows_samples
@@ -100,6 +104,7 @@ lasts-by-default (suc n) form bytes absent =
     ∙ ap (λ k. form.duration.default + k) (lasts-by-default n form (after_row form bytes) absent)
     ∙ sym (sum_by-cons (λ (v : Option ℕ). unwrap_or v 0) (Some form.duration.default) (replicate n (Some form.duration.default)))
 
+-- either way, the samples of a run's rows last for the total of its durations
 lasts-by : (present : Bool) (d : SampleDefaults) (run : List ℕ) (form : RowFormat) → has_flag run sample_duration_present ≡ present → IsFormat d run form
     → total_duration (rows_samples (sample_count run) form (drop (rows_offset run) run)) ≡ total (values present 0 d.duration run)
 unfolding values
@@ -109,6 +114,7 @@ lasts-by false d run form flag is =
     lasts-by-default (sample_count run) form (drop (rows_offset run) run) (is.duration.present_is ∙ flag)
     ∙ ap (λ (o : Option ℕ). total (replicate (sample_count run) o)) (sym (is.duration.default_is flag))
 
+-- flags for the first sample don't change how long the samples last
 first-lasts : (o : Option ℕ) (ss : List Sample) → total_duration (with_first_flags o ss) ≡ total_duration ss
 first-lasts None ss = refl
 first-lasts (Some flags) [] = refl
@@ -117,13 +123,16 @@ first-lasts (Some flags) (s ∷ ss) =
 
 -- ---- the flags of the first sample
 
+-- the number after two fields is at the sum of their lengths
 after-two-fields : (at a b : ℕ) (bytes : List ℕ) → number_at w32 0 (drop b (drop a (drop at bytes))) ≡ number_at w32 (at + a + b) bytes
 unfolding number_at
 after-two-fields at a b bytes = ap (λ (xs : List ℕ). from_be_bytes w32 xs) (ap (λ (xs : List ℕ). drop b xs) (drop-drop a at bytes) ∙ drop-drop b (at + a) bytes)
 
+-- the flags of a run's first row, or their default if rows have no flags
 abbrev first_flags : RowFormat → List ℕ → ℕ
 first_flags form run = field_value form.flags (after_field form.size (after_field form.duration (drop (rows_offset run) run)))
 
+-- the flags of a run's first row by its format are those of the row, or else the default
 first-value : (present : Bool) (d : SampleDefaults) (run : List ℕ) (form : RowFormat) → has_flag run sample_flags_present ≡ present → IsFormat d run form
     → Some (first_flags form run) ≡ option_or (first_row_flags run) d.flags
 first-value true d run form flag is =
@@ -135,10 +144,12 @@ first-value false d run form flag is =
 plus-zero : (n : ℕ) → n + 0 ≡ n
 plus-zero n = omega arith
 
+-- samples last as long as the run's facts say, and the first one has the flags that the facts are read from
 pub record HasRunFacts (d : SampleDefaults) (run : List ℕ) (ss : List Sample) : Type 0 where
   pub lasts : total_duration ss ≡ duration_in d.duration (run ∷ [])
   pub flags : (first : Sample) (others : List Sample) → ss ≡ first ∷ others → flags_in d.flags (run ∷ []) ≡ Some first.flags
 
+-- the first sample that is read of a run has the flags that the facts are read from
 flags-first : (o : Option ℕ) (d : SampleDefaults) (run : List ℕ) (form : RowFormat) (n : ℕ) → first_flags_of run ≡ o → sample_count run ≡ n → IsFormat d run form
     → (first : Sample) (others : List Sample) → with_first_flags o (rows_samples n form (drop (rows_offset run) run)) ≡ first ∷ others
     → flags_in d.flags (run ∷ []) ≡ Some first.flags
@@ -154,6 +165,7 @@ flags-first (Some flags) d run form (suc n) own count is first others e =
     let same : flags ≡ first.flags = ap (λ (s : Sample). s.flags) one in
     rw (count, lt-ltb 0 (suc n) (omega arith), own) (ap Some same)
 
+-- the samples that are read of a run last as long as its facts say, and the first one has the flags that the facts are read from
 pub run-facts : (d : SampleDefaults) (run : List ℕ) (ss : List Sample) → run_samples d run ≡ Some ss → HasRunFacts d run ss
 unfolding run_samples
 run-facts d run ss is =

@@ -23,20 +23,22 @@ use Rattle.hls_mend_laws.proofs.Options.{and-then, if-so, if-then, none-or-some,
 use Rattle.hls_mend_laws.proofs.ReadLaws.{traf_of_parts, unit-read}
 use Rattle.hls_mend_laws.proofs.SampleLaws.{HasRunFacts, run-facts}
 
--- the bytes of a unit have a layout
+-- if facts are read of a unit, it has a layout
 layout-some : (o : Option Layout) (init : InitData) (len : ℕ) (f : Facts) → facts_with (context_of_layout init o) len (trafs_in o) ≡ Ok f → (l : Layout) × (o ≡ Some l)
 layout-some None init len f is = absurd (cc)
 layout-some (Some l) init len f is = (l, refl)
 
+-- a layout that isn't refused for the length of its bytes is the one of their boxes
 laid-by : (long : Bool) (o : Option Layout) (l : Layout) → cond long None o ≡ Some l → o ≡ Some l
 laid-by true o l is = absurd (cc)
 laid-by false o l is = is
 
+-- the layout of a unit is that of its boxes
 unit-laid : (unit : List ℕ) (l : Layout) → layout_of unit ≡ Some l → option_and_then layout_of_boxes (children unit) ≡ Some l
 unfolding layout_of
 unit-laid unit l is = laid-by (nat_lt unit_limit (length unit)) (option_and_then layout_of_boxes (children unit)) l is
 
--- what a fragment says, and what is known of a unit that it was read from
+-- a fragment that was read of a unit agrees with the unit's facts: its start, duration and end, and whether its first sample is a sync sample
 pub record IsSent (init : InitData) (unit : List ℕ) (f : Facts) (sent : Fragment) : Type 0 where
   pub loose : AreLooseBoxes sent.front
   pub head : is_timing_head init sent.head ≡ true
@@ -49,6 +51,7 @@ pub record IsSent (init : InitData) (unit : List ℕ) (f : Facts) (sent : Fragme
   pub end_us_fits : f.end_us < 2 ^ 53
   pub sync_is : (first : Sample) (others : List Sample) → sent.samples ≡ first ∷ others → is_sync (Some first.flags) ≡ f.sync
 
+-- the fragment with a unit's parts and samples agrees with the unit's facts, if the samples fill the payload
 sent-parts : (init : InitData) (unit : List ℕ) (f : Facts) (u : UnitParts) (ss : List Sample) → IsUnit init unit f → unit_parts unit ≡ Some u
     → is_readable u ≡ true → run_samples (sample_defaults init.tracks u.moof.traf.head) u.moof.traf.run ≡ Some ss → total_size ss ≡ length u.payload
     → IsSent init unit f (fragment_with u ss)
@@ -85,7 +88,7 @@ sent-parts init unit f u ss is parts readable samples filled =
       sync_is = λ first others e. ap is_sync (sym (run.flags first others e)) ∙ ap (λ (x : Facts). x.sync) o.facts_are;
     }
 
--- the fragment that a unit is, with what its facts say of it
+-- the fragment that is read of a unit agrees with the unit's facts
 pub is-sent : (init : InitData) (unit : List ℕ) (f : Facts) (sent : Fragment) → IsUnit init unit f → fragment_of init unit ≡ Some sent → IsSent init unit f sent
 unfolding fragment_of
 is-sent init unit f sent is read =

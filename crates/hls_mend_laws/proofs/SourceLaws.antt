@@ -17,18 +17,20 @@ use Rattle.hls_mend_laws.proofs.RetimedLaws.{is-written}
 
 -- ---- the rest of a unit
 
--- what is left of these samples from `start`
+-- a fragment has the last of these samples with their bytes, and starts when they start
 record IsLeft (f : Fragment) (start : ℕ) (ss : List Sample) (payload : List ℕ) (made : Fragment) : Type 0 where
   gone : List Sample
   rest : List Sample
   samples : ss ≡ gone ++ rest
   is : rest_of f (start + total_duration gone) rest (drop (total_size gone) payload) ≡ made
 
+-- if no sample is cut, all samples with all their bytes are left
 none-gone : (f : Fragment) (start : ℕ) (ss : List Sample) (payload : List ℕ) → IsLeft f start ss payload (rest_of f start ss payload)
 none-gone f start ss payload =
     let same : start + 0 ≡ start = omega arith in
     record { gone = []; rest = ss; samples = refl; is = ap (λ (k : ℕ). rest_of f k ss payload) same }
 
+-- what is left of the samples after the first one is left of all of them
 one-gone : (f : Fragment) (start : ℕ) (s : Sample) (ss : List Sample) (payload : List ℕ) (made : Fragment) → IsLeft f (start + s.duration) ss (drop s.size payload) made
     → IsLeft f start (s ∷ ss) payload made
 one-gone f start s ss payload made left =
@@ -45,6 +47,7 @@ one-gone f start s ss payload made left =
           ∙ left.is;
     }
 
+-- a cut leaves the last of the samples with their bytes
 is-left : (snap end : ℕ) (f : Fragment) (start : ℕ) (ss : List Sample) (payload : List ℕ) (made : Fragment) → cut_from snap end f start ss payload ≡ Some made → IsLeft f start ss payload made
 is-left snap end f start [] payload made is = absurd (cc)
 is-left snap end f start (s ∷ ss) payload made is =
@@ -61,6 +64,7 @@ is-left snap end f start (s ∷ ss) payload made is =
       ]
     ]
 
+-- the written bytes of what a cut leaves of a unit's fragment are the rest of the unit
 rest-by : (init : InitData) (unit made : List ℕ) (sent again : Fragment) → fragment_of init unit ≡ Some sent → IsLeft sent sent.start sent.samples sent.payload again → made ≡ fragment_bytes again → IsRest init unit made
 rest-by init unit made sent again read left wrote = record {
   sent = sent;
@@ -71,6 +75,7 @@ rest-by init unit made sent again read left wrote = record {
   bytes = wrote ∙ ap fragment_bytes (sym left.is);
 }
 
+-- a unit that is cut keeps its last samples with their bytes
 pub cut-keeps-rest : CutKeepsRest
 unfolding cut_unit
 cut-keeps-rest init unit made snap end is =
@@ -80,6 +85,7 @@ cut-keeps-rest init unit made snap end is =
 
 -- ---- fillers
 
+-- the written bytes of a filler that holds the first of the samples are that sample for the given ticks
 held-by : (init : InitData) (unit made : List ℕ) (start ticks : ℕ) (source filler : Fragment) (ss : List Sample) → fragment_of init unit ≡ Some source → source.samples ≡ ss
     → held_from source start ticks ss ≡ Some filler → made ≡ fragment_bytes filler → IsHeld init unit made start ticks
 held-by init unit made start ticks source filler [] read samples is wrote = absurd (cc)
@@ -87,6 +93,7 @@ held-by init unit made start ticks source filler (first ∷ others) read samples
     let c = if-so (nat_lt 0 ticks && nat_lt ticks (2 ^ 32)) (filler_of source start (record first { duration = ticks } ∷ []) (take first.size source.payload)) filler is in
     record { source = source; first = first; others = others; read = read; samples = samples; bytes = wrote ∙ ap fragment_bytes (sym c.1) }
 
+-- a filler that holds a sample has the recorded unit's first sample, with its bytes
 pub held-repeat-sample : HeldRepeatSample
 unfolding held_unit
 held-repeat-sample init unit made start ticks is =
@@ -94,6 +101,7 @@ held-repeat-sample init unit made start ticks is =
     let h = and-then (held start ticks) (fragment_of init unit) w.x w.is in
     held-by init unit made start ticks h.x w.x h.x.samples h.is refl h.then (is-written w.x made w.then).bytes
 
+-- the written bytes of a filler of silence have the silent frame in each sample
 silence-by : (init : InitData) (unit silent made : List ℕ) (start ticks : ℕ) (source filler : Fragment) (ss : List Sample) → fragment_of init unit ≡ Some source
     → silence_from silent source start ticks ss ≡ Some filler → made ≡ fragment_bytes filler → IsSilence init unit silent made start ticks
 silence-by init unit silent made start ticks source filler [] read is wrote = absurd (cc)
@@ -102,6 +110,7 @@ silence-by init unit silent made start ticks source filler (first ∷ others) re
     let c = if-so (nat_lt 0 ticks && nat_lt 0 first.duration) (filler_of source start frames (concat (replicate (length frames) silent))) filler is in
     record { source = source; frame = first.duration; read = read; bytes = wrote ∙ ap fragment_bytes (sym c.1) }
 
+-- a filler of silence has the silent frame in each sample
 pub silence-repeats-frame : SilenceRepeatsFrame
 unfolding silent_unit
 silence-repeats-frame init unit silent made start ticks is =

@@ -22,6 +22,7 @@ cut_from snap end f start (s ∷ ss) payload =
     then (if nat_le (2 ^ 64) (start + s.duration) then None else cut_from snap end f (start + s.duration) ss (drop s.size payload))
     else Some (rest_of f start (s ∷ ss) payload)
 
+-- the fragment without the leading samples that are cut where the rendition ends at `end`, if any sample is left
 abbrev pub cut : ℕ → ℕ → Fragment → Option Fragment
 cut snap end f = cut_from snap end f f.start f.samples f.payload
 

@@ -13,13 +13,14 @@ use Rattle.hls_mend_laws.specs.Retimed.{written}
 abbrev pub filler_of : Fragment → ℕ → List Sample → List ℕ → Fragment
 filler_of source start samples payload = record source { front = []; start = start; samples = samples; payload = payload }
 
--- the recorded unit's first sample, for the given number of ticks
+-- the first of these samples of the recorded unit, for the given number of ticks, which must be above 0 and fit 32 bits
 abbrev pub held_from : Fragment → ℕ → ℕ → List Sample → Option Fragment
 held_from source start ticks [] = None
 held_from source start ticks (first ∷ others) =
     if nat_lt 0 ticks && nat_lt ticks (2 ^ 32) then Some (filler_of source start (record first { duration = ticks } ∷ []) (take first.size source.payload))
     else None
 
+-- the fragment that holds the recorded unit's first sample for the given number of ticks
 abbrev pub held : ℕ → ℕ → Fragment → Option Fragment
 held start ticks source = held_from source start ticks source.samples
 
@@ -31,10 +32,11 @@ held_unit init unit start ticks = option_and_then written (option_and_then (held
 abbrev pub silent_sample : ℕ → ℕ → Sample
 silent_sample ticks size = record { duration = ticks; size = size; flags = 0x02000000; offset = 0 }
 
--- frames of silence of `frame` ticks each for the given number of ticks; the last one may be shorter
+-- the last, shorter frame of silence for the ticks that are left, or nothing if none are
 abbrev pub last_silent : ℕ → ℕ → List Sample
 last_silent ticks size = if ticks == 0 then [] else silent_sample ticks size ∷ []
 
+-- frames of silence of `frame` ticks each for the given number of ticks; the last one may be shorter
 abbrev pub silent_samples : ℕ → ℕ → ℕ → List Sample
 silent_samples frame size ticks = replicate (ticks / frame) (silent_sample frame size) ++ last_silent (ticks - ticks / frame * frame) size
 
@@ -47,6 +49,7 @@ silence_from silent source start ticks (first ∷ others) =
     (concat (replicate (length (silent_samples first.duration (length silent) ticks)) silent)))
     else None
 
+-- the fragment that repeats a silent frame for the given number of ticks, each as long as the recorded unit's first sample
 abbrev pub silence : List ℕ → ℕ → ℕ → Fragment → Option Fragment
 silence silent start ticks source = silence_from silent source start ticks source.samples
 
@@ -54,10 +57,11 @@ silence silent start ticks source = silence_from silent source start ticks sourc
 unfoldable pub silent_unit : InitData → List ℕ → List ℕ → ℕ → ℕ → Option (List ℕ)
 silent_unit init unit silent start ticks = option_and_then written (option_and_then (silence silent start ticks) (fragment_of init unit))
 
--- the silent frame of AAC-LC with one channel and with two channels, at any sampling rate (ISO/IEC 14496-3 4.4.2)
+-- the silent frame of AAC-LC with one channel, at any sampling rate (ISO/IEC 14496-3 4.4.2)
 abbrev pub silent_mono : List ℕ
 silent_mono = 0x00 ∷ 0xc8 ∷ 0x00 ∷ 0x80 ∷ 0x23 ∷ 0x80 ∷ []
 
+-- the silent frame of AAC-LC with two channels, at any sampling rate
 abbrev pub silent_stereo : List ℕ
 silent_stereo = 0x21 ∷ 0x00 ∷ 0x49 ∷ 0x90 ∷ 0x02 ∷ 0x19 ∷ 0x00 ∷ 0x23 ∷ 0x80 ∷ []
 

@@ -32,54 +32,61 @@ pub record Fragment : Type 0 where
   pub samples : List Sample
   pub payload : List ℕ
 
--- the offset of the samples' bytes from the first byte of the `moof`: after the headers of six boxes, the fields of `mfhd`, `tfdt` and
--- `trun`, the `tfhd`, and a row of 16 bytes for each sample
+-- the offset of the samples' bytes from the first byte of the `moof`: after the headers of seven boxes, the fields of `mfhd`, `tfdt`
+-- and `trun`, the `tfhd`, and a row of 16 bytes for each sample
 abbrev pub payload_offset : Fragment → ℕ
 payload_offset f = 88 + length f.head + 16 * length f.samples
 
+-- the `mfhd` of a fragment, with its sequence number (8.8.5)
 abbrev pub mfhd_of : Fragment → Box
 mfhd_of f = record { kind = mfhd_type; content = words (0 ∷ f.number ∷ []) }
 
+-- the `tfhd` of a fragment, with its content as it was read
 abbrev pub tfhd_of : Fragment → Box
 tfhd_of f = record { kind = tfhd_type; content = f.head }
 
--- of version 1, with a time of 64 bits
+-- a `tfdt` of version 1, with a start of 64 bits
 abbrev pub tfdt_of : ℕ → Box
 tfdt_of start = record { kind = tfdt_type; content = words (0x01000000 ∷ []) ++ to_be_bytes w64 start }
 
--- the fields of a row
+-- the fields of a sample in its row of a `trun`, in order
 abbrev pub row : Sample → List ℕ
 row s = s.duration ∷ s.size ∷ s.flags ∷ s.offset ∷ []
 
--- of version 1, with a data offset and all fields in each row: its flags, the number of samples, the offset, and the rows
+-- a `trun` of version 1, with a data offset and all fields in each row: its flags, the number of samples, the offset, and the rows
 abbrev pub trun_of : ℕ → List Sample → Box
 trun_of offset ss = record { kind = trun_type; content = words (0x01000f01 ∷ length ss ∷ offset ∷ flat_map row ss) }
 
+-- the `traf` of a fragment: its `tfhd`, its `tfdt` and its `trun`
 abbrev pub traf_of : Fragment → Box
 traf_of f = record { kind = traf_type; content = boxes_bytes (tfhd_of f ∷ tfdt_of f.start ∷ trun_of (payload_offset f) f.samples ∷ []) }
 
+-- the `moof` of a fragment: its `mfhd` and its `traf`
 abbrev pub moof_of : Fragment → Box
 moof_of f = record { kind = moof_type; content = boxes_bytes (mfhd_of f ∷ traf_of f ∷ []) }
 
+-- the `mdat` of a fragment, with the bytes of its samples
 abbrev pub mdat_of : Fragment → Box
 mdat_of f = record { kind = mdat_type; content = f.payload }
 
--- the whole unit
+-- the bytes of a whole unit: the boxes before its `moof`, the `moof`, and the `mdat`
 unfoldable pub fragment_bytes : Fragment → List ℕ
 fragment_bytes f = f.front ++ boxes_bytes (moof_of f ∷ mdat_of f ∷ [])
 
--- the sum of the durations, and the sum of the sizes
+-- the sum of the samples' durations, in ticks
 abbrev pub total_duration : List Sample → ℕ
 total_duration ss = sum_by (λ (s : Sample). s.duration) ss
 
+-- the sum of the samples' sizes, in bytes
 abbrev pub total_size : List Sample → ℕ
 total_size ss = sum_by (λ (s : Sample). s.size) ss
 
+-- whether there is a first sample, and it is a sync sample
 abbrev pub starts_with_sync : List Sample → Bool
 starts_with_sync [] = false
 starts_with_sync (s ∷ ss) = is_sync (Some s.flags)
 
--- each field fits 32 bits
+-- each field of a sample fits 32 bits
 pub record HasFields (s : Sample) : Type 0 where
   pub duration : s.duration < 2 ^ 32
   pub size : s.size < 2 ^ 32
@@ -113,7 +120,8 @@ pub record IsTimeSpan (init : InitData) (start ticks : ℕ) : Type 0 where
   pub end_us_fits : floor_us (start + ticks) (timing_track init).scale < 2 ^ 53
   pub some_time : floor_us start (timing_track init).scale ≢ floor_us (start + ticks) (timing_track init).scale
 
--- the samples have fields that fit, fill the payload, and last for a time that a unit can have
+-- a fragment can be written as a unit: loose boxes precede its `moof`, its `tfhd` is of the timing track, its fields fit, its samples
+-- fill the payload and last for a time that a unit can have, and it is within the limit of a unit
 pub record IsWhole (init : InitData) (f : Fragment) : Type 0 where
   pub loose : AreLooseBoxes f.front
   pub head : is_timing_head init f.head ≡ true
@@ -134,9 +142,10 @@ span_facts init start ticks sync len = record {
   len = len;
 }
 
+-- the facts of the unit that a fragment is written as
 abbrev pub fragment_facts : InitData → Fragment → Facts
 fragment_facts init f = span_facts init f.start (total_duration f.samples) (starts_with_sync f.samples) (length (fragment_bytes f))
 
--- what was written is a unit with these facts
+-- what is written of a whole fragment is a unit with the fragment's facts
 abbrev pub FragmentsAreUnits : Type 0
 FragmentsAreUnits = (init : InitData) (f : Fragment) → IsWhole init f → IsUnit init (fragment_bytes f) (fragment_facts init f)

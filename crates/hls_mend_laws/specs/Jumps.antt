@@ -19,10 +19,11 @@ allows_jump wait_us now_us p = not p.is_open || (p.is_ahead || is_away wait_us n
 unfoldable pub is_accepted_jump : ℕ → ℕ → List Presence → Bool
 is_accepted_jump wait_us now_us others = list_all (allows_jump wait_us now_us) others
 
--- the encoder's state after a unit that is ahead and was refused, and after any other
+-- the encoder's state after a unit that was refused as ahead of the channel
 abbrev pub after_refusal : Presence → Presence
 after_refusal p = record p { is_ahead = true }
 
+-- the encoder's state after any other unit, which arrived at `now_us`
 abbrev pub after_unit : ℕ → Presence → Presence
 after_unit now_us p = record p { heard_us = now_us; is_ahead = false }
 
@@ -38,7 +39,7 @@ OneClockIsRefused =
     (wait_us now_us : ℕ) (before after : List Presence) (p : Presence) → Continues wait_us now_us p
     → is_accepted_jump wait_us now_us (before ++ p ∷ after) ≡ false
 
--- each rendition that is open was refused since it was last heard, or is away
+-- a rendition allows a jump: it isn't open, was refused as ahead, or is away
 abbrev pub HasJumped : ℕ → ℕ → Presence → Type 0
 HasJumped wait_us now_us p = (allows_jump wait_us now_us p ≡ true)
 

@@ -1,3 +1,5 @@
+-- Definitions of mending: fragments as they are written and read, units that are retimed or cut, fillers,
+-- and when a channel may jump ahead.
 pub mod Bytes
 pub mod Fragments
 pub mod FragmentsRead

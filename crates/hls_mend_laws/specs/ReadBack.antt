@@ -25,5 +25,6 @@ pub record IsComplete (f : Fragment) : Type 0 where
   pub filled : total_size f.samples ≡ length f.payload
   pub short : length (fragment_bytes f) ≤ unit_limit
 
+-- a complete fragment that is written is read again as it was
 abbrev pub FragmentsAreReadBack : Type 0
 FragmentsAreReadBack = (init : InitData) (f : Fragment) → IsComplete f → fragment_of init (fragment_bytes f) ≡ Some f

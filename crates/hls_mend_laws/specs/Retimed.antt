@@ -23,10 +23,12 @@ abbrev pub new_duration : ℕ → ℕ → ℕ → Option ℕ
 new_duration sent first start =
     if nat_lt start (sent + first) && nat_lt (sent + first - start) (2 ^ 32) then Some (sent + first - start) else None
 
+-- the fragment with these samples, moved to `start`; None if there is no sample or the first can't absorb the difference
 abbrev pub retimed_from : Fragment → ℕ → List Sample → Option Fragment
 retimed_from f start [] = None
 retimed_from f start (first ∷ others) = option_map (moved f start first others) (new_duration f.start first.duration start)
 
+-- the fragment that starts at `start` and ends as before, if its first sample can absorb the difference
 abbrev pub retimed : ℕ → Fragment → Option Fragment
 retimed start f = retimed_from f start f.samples
 
@@ -63,5 +65,6 @@ pub record IsRetimed (init : InitData) (unit made : List ℕ) (start : ℕ) : Ty
   pub same_end : start + duration ≡ sent.start + first.duration
   pub bytes : made ≡ fragment_bytes (moved sent start first others duration)
 
+-- a unit that is written again has the samples and the bytes that were sent, but for the duration of the first sample
 abbrev pub RetimedKeepSamples : Type 0
 RetimedKeepSamples = (init : InitData) (unit made : List ℕ) (start : ℕ) → retimed_unit init unit start ≡ Some made → IsRetimed init unit made start

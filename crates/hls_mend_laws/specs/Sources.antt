@@ -18,6 +18,7 @@ pub record IsRest (init : InitData) (unit made : List ℕ) : Type 0 where
   pub samples : sent.samples ≡ cut ++ rest
   pub bytes : made ≡ fragment_bytes (rest_of sent (sent.start + total_duration cut) rest (drop (total_size cut) sent.payload))
 
+-- a unit that is cut has the last samples of the unit that was sent, with their bytes
 abbrev pub CutKeepsRest : Type 0
 CutKeepsRest = (init : InitData) (unit made : List ℕ) (snap end : ℕ) → cut_unit init unit snap end ≡ Some made → IsRest init unit made
 
@@ -30,20 +31,22 @@ pub record IsHeld (init : InitData) (unit made : List ℕ) (start ticks : ℕ) :
   pub samples : source.samples ≡ first ∷ others
   pub bytes : made ≡ fragment_bytes (filler_of source start (record first { duration = ticks } ∷ []) (take first.size source.payload))
 
+-- a filler that holds a sample has the recorded unit's first sample, with its bytes, for the given ticks
 abbrev pub HeldRepeatSample : Type 0
 HeldRepeatSample = (init : InitData) (unit made : List ℕ) (start ticks : ℕ) → held_unit init unit start ticks ≡ Some made → IsHeld init unit made start ticks
 
--- a filler of these samples, each with the same bytes
+-- a filler of these frames, each with the same silent bytes
 abbrev pub silence_of : Fragment → ℕ → List ℕ → List Sample → Fragment
 silence_of source start silent frames = filler_of source start frames (concat (replicate (length frames) silent))
 
--- the same frame in each sample
+-- a filler of silence: each of its samples is the same silent frame, as long as `frame`, and the last one perhaps shorter
 pub record IsSilence (init : InitData) (unit silent made : List ℕ) (start ticks : ℕ) : Type 0 where
   pub source : Fragment
   pub frame : ℕ
   pub read : fragment_of init unit ≡ Some source
   pub bytes : made ≡ fragment_bytes (silence_of source start silent (silent_samples frame (length silent) ticks))
 
+-- a filler of silence has the silent frame in each sample
 abbrev pub SilenceRepeatsFrame : Type 0
 SilenceRepeatsFrame =
     (init : InitData) (unit silent made : List ℕ) (start ticks : ℕ) → silent_unit init unit silent start ticks ≡ Some made → IsSilence init unit silent made start ticks

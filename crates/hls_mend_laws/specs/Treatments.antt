@@ -6,6 +6,7 @@ use Rattle.hls_mend_laws.specs.declared.treatment.UnitSpan.{UnitSpan}
 use Rattle.hls_mend_laws.specs.declared.treatment.Treatment.{Treatment}
 use Rattle.hls_mend_laws.specs.declared.treatment.Treatment.TheVariants as treatments
 
+-- the tick at which a unit ends
 abbrev pub end_of : UnitSpan → ℕ
 end_of u = u.start + u.duration
 
@@ -45,9 +46,11 @@ pub record Piece : Type 0 where
   pub end : ℕ
   pub is_sent : Bool
 
+-- a unit that is recorded as it was sent
 abbrev pub sent_piece : UnitSpan → Piece
 sent_piece u = record { start = u.start; end = end_of u; is_sent = true }
 
+-- a unit that mending made, from `start` to `end`
 abbrev pub made_piece : ℕ → ℕ → Piece
 made_piece start end = record { start = start; end = end; is_sent = false }
 
@@ -61,6 +64,7 @@ with_unit treatments.Jump u last older = sent_piece u ∷ last ∷ older
 with_unit treatments.Cut u last older = last ∷ older
 with_unit treatments.Drop u last older = last ∷ older
 
+-- the recording after one more unit arrives; the first unit is recorded as it was sent
 abbrev pub mend_next : MendLimits → List Piece → UnitSpan → List Piece
 mend_next limits [] u = sent_piece u ∷ []
 mend_next limits (last ∷ older) u = with_unit (treatment_of limits (Some last.end) u) u last older
@@ -69,16 +73,17 @@ mend_next limits (last ∷ older) u = with_unit (treatment_of limits (Some last.
 unfoldable pub recording_of : MendLimits → List UnitSpan → List Piece
 recording_of limits us = fold (mend_next limits) [] us
 
--- a stream without faults: each unit starts at the end of the one before it
+-- the first unit starts at `end`, and each later one at the end of the one before it
 abbrev pub IsFaultlessAfter : ℕ → List UnitSpan → Type 0
 IsFaultlessAfter end [] = Unit {0}
 IsFaultlessAfter end (u ∷ us) = (u.start ≡ end) × IsFaultlessAfter (end_of u) us
 
+-- a stream without faults: each unit after the first starts at the end of the one before it
 abbrev pub IsFaultless : List UnitSpan → Type 0
 IsFaultless [] = Unit {0}
 IsFaultless (u ∷ us) = IsFaultlessAfter (end_of u) us
 
--- its recording is its units as they were sent, and nothing else
+-- the recording of a stream without faults is its units as they were sent, and nothing else
 abbrev pub FaultlessIsKept : Type 0
 FaultlessIsKept = (limits : MendLimits) (us : List UnitSpan) → IsFaultless us → recording_of limits us ≡ fold (λ (ps : List Piece) (u : UnitSpan). sent_piece u ∷ ps) [] us
 
@@ -92,6 +97,7 @@ IsContiguous fill (p ∷ (last ∷ older)) = (p.start ≤ p.end) × ((p.start �
 abbrev pub IsSpan : UnitSpan → Type 0
 IsSpan u = u.first ≤ u.duration
 
+-- whatever units arrive, if each lasts as long as its first sample at least, the recording is contiguous but for gaps longer than `fill`
 abbrev pub RecordedIsContiguous : Type 0
 RecordedIsContiguous = (limits : MendLimits) (us : List UnitSpan) → All IsSpan us → IsContiguous limits.fill (recording_of limits us)
 

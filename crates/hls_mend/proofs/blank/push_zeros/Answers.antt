@@ -1,3 +1,4 @@
+-- Exactly the given number of zeros is appended: they are the first ones of 32.
 use Rattle.std.proofs.Common.{◌∙◌, ℕ, ◌++◌, List, ap}
 use Rattle.std.proofs.lemmas.List.{take-replicate}
 use Rattle.hls_mend.proofs.blank.push_zeros.Goals as goal

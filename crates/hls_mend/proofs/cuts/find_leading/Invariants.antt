@@ -1,3 +1,4 @@
+-- The samples before the index are cut: `leading` has their number, their end and their bytes, and cutting the others from there is cutting all.
 use Rattle.std.proofs.Common.{◌≡◌, ◌+◌, ℕ, List, drop}
 use Rattle.hls_mend_laws.specs.Fragments.{Fragment, total_size}
 use Rattle.hls_mend_laws.specs.Cuts.{cut_from}

@@ -1,3 +1,4 @@
+-- The frames made and silence for the ticks that are left are the whole silence (`silent-step`); the last frame may be shorter.
 use Rattle.std.proofs.Common.{◌∙◌, ℕ, ◌-◌, ◌<◌, ◌≤◌, List, [], ◌∷◌, ◌++◌, sym, ap, arith, append_assoc}
 use Rattle.std.proofs.lemmas.List.{append-nil}
 use Rattle.hls_mend_laws.specs.declared.sample.Sample.{Sample}

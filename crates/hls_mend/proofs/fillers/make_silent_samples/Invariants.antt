@@ -1,3 +1,4 @@
+-- Before each round, the samples so far and silence for the remaining ticks are the silence for all ticks. The remaining ticks decrease.
 use Rattle.std.proofs.Common.{◌≡◌, ◌++◌}
 use Rattle.hls_mend_laws.specs.Fillers.{silent_samples}
 use Rattle.hls_mend.proofs.fillers.make_silent_samples.Given as goal

@@ -1,3 +1,4 @@
+-- Before each round, the bytes so far and the frame as often as it is still missing are the frame as often as given.
 use Rattle.std.proofs.Common.{◌≡◌, ◌++◌, replicate}
 use Rattle.std.specs.List.{concat}
 use Rattle.hls_mend.proofs.fillers.repeat_frame.Given as goal

@@ -1,3 +1,4 @@
+-- Silence whose frames can't fit a unit isn't written (`silence-refused`); other silence is written from its frames (`silence-made`).
 use Rattle.std.proofs.Common.{rules, ◌≡◌, ◌∙◌, ℕ, ◌/◌, ◌<◌, false, Option, Some, option_map, List, length, get_or, replicate, vec_len, sym, ap, subst}
 use Rattle.std.specs.Prelude.{IfOk}
 use Rattle.std.specs.List.{concat}

@@ -1,3 +1,4 @@
+-- Before each round, the samples have exactly all bytes if and only if the remaining samples have exactly the bytes that are left.
 use Rattle.std.proofs.Common.{◌≡◌, ◌==◌, drop}
 use Rattle.hls_mend_laws.specs.Fragments.{total_size}
 use Rattle.hls_mend.proofs.fragment.fill.Given as goal

@@ -1,3 +1,5 @@
+-- The front is found at the first `moof`, with the boxes before it except each `sidx`. A `moov`, an `mdat` or a bad box before it means that there
+-- is none (FrontLaws of hls_mend_laws).
 use Rattle.std.proofs.Common.{rules, ◌≡◌, ◌≢◌, ◌∙◌, ℕ, ◌==◌, ◌||◌, true, false, Some, None, List, [], ◌++◌, length, take, drop, refl, sym, ap}
 use Rattle.std.proofs.lemmas.List.{take_rest, append-nil}
 use Rattle.std.proofs.lemmas.Bool.{ne_eqb, eqb-true}

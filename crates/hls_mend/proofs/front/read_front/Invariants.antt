@@ -1,3 +1,4 @@
+-- Before each round, the front of the unit is the kept boxes so far, followed by the front of the rest. The rest gets shorter.
 use Rattle.std.proofs.Common.{◌≡◌, length}
 use Rattle.hls_mend_laws.specs.FragmentsRead.{front_of}
 use Rattle.hls_mend.proofs.FrontSteps.{joined}

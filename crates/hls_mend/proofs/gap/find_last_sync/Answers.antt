@@ -1,3 +1,4 @@
+-- The search among the units that are left finds what the whole search does (`sync-next`), until one is found or none are left.
 use Rattle.std.proofs.Common.{rules, ◌≡◌, ◌∙◌, ℕ, ◌-◌, ◌<◌, true, false, sym, ap, arith}
 use Rattle.std.specs.Prelude.{slice_index_or}
 use Rattle.hls_media_laws.specs.FactLists.{no_facts}

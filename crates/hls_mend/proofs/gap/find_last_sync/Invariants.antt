@@ -1,3 +1,4 @@
+-- The search for at most `left` units back from the first `count` finds what the search among all does.
 use Rattle.std.proofs.Common.{◌≡◌, ◌≤◌, length}
 use Rattle.hls_mend.specs.MendedUnits.{last_sync}
 use Rattle.hls_mend.proofs.gap.find_last_sync.Given as goal

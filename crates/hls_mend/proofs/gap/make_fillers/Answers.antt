@@ -1,3 +1,4 @@
+-- The fillers made and those that may follow are all (`made-more`), until the gap is filled, a filler can't be made, or there are 4096.
 use Rattle.std.proofs.Common.{rules, ◌≡◌, ◌∙◌, ℕ, ◌+◌, ◌-◌, ◌<◌, Some, None, List, [], ◌∷◌, ◌++◌, sym, ap, arith}
 use Rattle.std.proofs.lemmas.List.Elements.{All-push, All-same}
 use Rattle.hls_media_laws.specs.IsInitOrUnit.{IsUnit}

@@ -1,3 +1,4 @@
+-- The fillers made and those that may follow from `next` are all fillers of the gap, and each one made is a unit.
 use Rattle.std.proofs.Common.{◌≡◌, ◌++◌}
 use Rattle.std.specs.Prelude.{All}
 use Rattle.hls_media_laws.specs.IsInitOrUnit.{IsUnit}

@@ -1,3 +1,4 @@
+-- Boxes that aren't normalized are appended as they are (`normal-zero`, `normal-raw`); of others, each box is one step (`normal-step`).
 use Rattle.std.proofs.Common.{rules, ◌≡◌, ◌∙◌, ℕ, ◌-◌, ◌<◌, ◌++◌, true, false, Some, None, List, [], length, drop, sym, ap, subst, arith, append_assoc}
 use Rattle.std.specs.Prelude.{OnOk}
 use Rattle.std.proofs.lemmas.List.{take_rest, append-nil}

@@ -1,3 +1,5 @@
+-- What was appended and the normal forms of the boxes that are left are the whole result. `push_boxes` calls `push_box` with one level less,
+-- which calls `push_content`, which calls `push_boxes`.
 use Rattle.std.proofs.Common.{◌≡◌, ◌+◌, ◌-◌, ◌*◌, ◌++◌, true, is_some, length}
 use Rattle.hls_boxes.specs.Boxes.{children}
 use Rattle.hls_mend.proofs.BoxSteps.{normal_rest}

@@ -1,3 +1,4 @@
+-- Boxes fill the content exactly if they fill what is left of it (`boxes-step`).
 use Rattle.std.proofs.Common.{rules, ◌≡◌, ◌∙◌, ℕ, ◌<◌, true, Some, None, is_some, List, [], length, sym, ap}
 use Rattle.std.proofs.lemmas.List.{take_rest}
 use Rattle.std.proofs.lemmas.Bool.{eqb-true}

@@ -1,3 +1,4 @@
+-- The normal form of an init section is that of its boxes, written to an empty vector.
 use Rattle.std.proofs.Common.{◌∙◌, ℕ, ◌++◌, List, ap}
 use Rattle.hls_mend.specs.InitSections.{normal_boxes, normal_init}
 use Rattle.hls_mend.proofs.normal.make_normal_init.Goals as goal

@@ -1,3 +1,4 @@
+-- The type, the length and the content, appended one after another.
 use Rattle.std.proofs.Common.{◌≡◌, ◌∙◌, ℕ, ◌++◌, List, length, ap, append_assoc}
 use Rattle.std.specs.Int.{to_be_bytes, w32, w64}
 use Rattle.hls_mend.proofs.normal.push_entry.Goals as goal

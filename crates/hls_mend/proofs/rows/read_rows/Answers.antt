@@ -1,3 +1,4 @@
+-- The samples read and those of the rows that are left are all samples (`joined-next`), and these rows fit what is left (`room-next`).
 use Rattle.std.proofs.Common.{◌∙◌, ◌<◌, List, ◌++◌, sym, ap, arith}
 use Rattle.std.proofs.lemmas.List.{append-nil}
 use Rattle.hls_mend_laws.specs.declared.sample.Sample.{Sample}

@@ -1,3 +1,4 @@
+-- The samples read and those of the rows that are left are all samples, and these rows fit the bytes that are left.
 use Rattle.std.proofs.Common.{◌≡◌, ◌++◌, ◌*◌, ◌≤◌, length}
 use Rattle.hls_mend_laws.specs.FragmentsRead.{row_width, rows_samples}
 use Rattle.hls_mend.proofs.rows.read_rows.Given as goal

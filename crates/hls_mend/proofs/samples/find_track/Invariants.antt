@@ -1,3 +1,4 @@
+-- Before each round, the first track with the number is the first such track among the remaining ones.
 use Rattle.std.proofs.Common.{◌≡◌, ◌==◌, drop, find}
 use Rattle.hls_media_laws.specs.declared.track.Track.{Track}
 use Rattle.hls_mend.proofs.samples.find_track.Given as goal

@@ -1,3 +1,4 @@
+-- The rows are within the `trun` (`starts-within`), and are as long by their format as the `trun` says.
 use Rattle.std.proofs.Common.{rules, ◌≡◌, ◌∙◌, ℕ, ◌*◌, ◌≤◌, length, ap, arith}
 use Rattle.std.proofs.lemmas.List.{take_rest, length-drop}
 use Rattle.hls_media_laws.specs.Fields.{sample_count, row_len}

@@ -1,3 +1,4 @@
+-- The unit is within the limit if the sum of its parts' lengths is: the sum is the length of the bytes that will be written.
 use Rattle.std.proofs.Common.{◌≡◌, ◌∙◌, ℕ, ◌+◌, ◌*◌, nat_le, length, ap, arith}
 use Rattle.hls_mend_laws.specs.Fragments.{fragment_bytes}
 use Rattle.hls_mend_laws.proofs.Callers.{fragment-len}

@@ -1,3 +1,4 @@
+-- The bytes of the `moof` are appended: its header, its `mfhd` with the number, and its `traf`.
 use Rattle.std.proofs.Common.{◌∙◌, ℕ, ◌+◌, ◌*◌, List, [], ◌∷◌, ◌++◌, length, sym, ap}
 use Rattle.hls_boxes.specs.Kinds.{moof_type}
 use Rattle.hls_mend_laws.specs.Bytes.{words, box_header, box_bytes}

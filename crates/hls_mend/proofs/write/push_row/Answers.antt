@@ -1,3 +1,4 @@
+-- The row of a sample is appended: its duration, its size, its flags and its offset.
 use Rattle.std.proofs.Common.{[], ◌∷◌}
 use Rattle.hls_mend_laws.specs.Bytes.{words}
 use Rattle.hls_mend.proofs.Joined.{appended-two}

@@ -1,3 +1,4 @@
+-- The rows appended and those of the samples that are left are all rows (`rows-next`).
 use Rattle.std.proofs.Common.{rules, ◌∙◌, ℕ, ◌+◌, ◌<◌, List, ◌++◌, length, drop, sym, ap, append_assoc}
 use Rattle.std.specs.List.{flat_map}
 use Rattle.hls_mend_laws.specs.declared.sample.Sample.{Sample}

@@ -1,3 +1,4 @@
+-- Before each round, the bytes so far and the rows of the remaining samples are the bytes before and the rows of all samples.
 use Rattle.std.proofs.Common.{◌≡◌, ◌++◌, drop}
 use Rattle.std.specs.List.{flat_map}
 use Rattle.hls_mend_laws.specs.Bytes.{words}

@@ -1,3 +1,4 @@
+-- The header, the version and the start are appended one after another.
 use Rattle.std.proofs.Common.{◌≡◌, ◌∙◌, ℕ, List, [], ◌∷◌, ◌++◌, ap}
 use Rattle.std.specs.Int.{to_be_bytes, w64}
 use Rattle.hls_media_laws.specs.Kinds.{tfdt_type}

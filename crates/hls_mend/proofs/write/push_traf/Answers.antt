@@ -1,3 +1,4 @@
+-- The bytes of the `traf` are appended: its header, its `tfhd`, its `tfdt` with the start, and its `trun` with the samples (`traf-joined`).
 use Rattle.std.proofs.Common.{◌∙◌, ℕ, ◌+◌, ◌*◌, List, ◌++◌, length, sym, ap}
 use Rattle.hls_media_laws.specs.Kinds.{traf_type}
 use Rattle.hls_mend_laws.specs.Bytes.{box_header, box_bytes}

@@ -1,3 +1,4 @@
+-- Two numbers are appended, each as four bytes with the highest first.
 use Rattle.std.proofs.Common.{◌≡◌, ◌∙◌, ℕ, ◌++◌, List, ap}
 use Rattle.std.specs.Int.{to_be_bytes, w32}
 use Rattle.hls_mend.proofs.Joined.{appended-two}

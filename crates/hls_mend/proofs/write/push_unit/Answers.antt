@@ -1,3 +1,4 @@
+-- The bytes of the unit are appended: the boxes before its `moof`, the `moof`, and the `mdat` with the payload.
 use Rattle.std.proofs.Common.{◌∙◌, ℕ, List, ◌++◌, sym, ap}
 use Rattle.hls_mend_laws.specs.Bytes.{box_bytes}
 use Rattle.hls_mend_laws.specs.Fragments.{moof_of, mdat_of}

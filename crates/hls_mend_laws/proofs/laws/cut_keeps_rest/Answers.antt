@@ -1,3 +1,4 @@
+-- A unit that is cut keeps its last samples and their bytes.
 use Rattle.hls_mend_laws.proofs.SourceLaws.{cut-keeps-rest}
 use Rattle.hls_mend_laws.proofs.laws.cut_keeps_rest.Goals as goal
 
