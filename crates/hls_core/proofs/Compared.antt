@@ -14,7 +14,7 @@ use Rattle.hls_core.specs.declared.rendition_state.RenditionState.{RenditionStat
 use Rattle.hls_core.specs.RenditionStates.{lane_of, held_of, HasRenditionState}
 
 module _ {T : Type 0} where
-  -- an item of a list whose items are numbered from 0
+  -- if a list counts from 0, its item n is the element at index n
   pub item_there : (s : Numbered T) (n : ℕ) (x : T) → s.first ≡ 0 → Some x ≡ item_at s n → slice_get s.items n ≡ Some x
   item_there s n x first is =
       let test : nat_lt n s.first ≡ false = le-ltb n s.first (omega arith) in
@@ -22,33 +22,37 @@ module _ {T : Type 0} where
       let at : item_at s n ≡ slice_get s.items n = rw (test, number) refl in
       sym (is ∙ at)
 
--- one more entry that both logs have
+-- if two logs have the same first n entries and the same entry n, they have the same first n + 1 entries
 pub begins_more : (a b : List Entry) (n : ℕ) (x y : Entry) → slice_get a n ≡ Some x → slice_get b n ≡ Some y → x ≡ y → take n b ≡ take n a → take (n + 1) b ≡ take (n + 1) a
 begins_more a b n x y at_a at_b same front =
     let front_a = take_at a n x at_a in
     let front_b = take_at b n y at_b in
     cc
 
--- one more entry, of this worker or of another
+-- an entry of a worker is, on its own, one event of that worker
 one_by : (by : ℕ) (e : Entry) → e.by ≡ by → length (events_by by (e ∷ [])) ≡ 1
 one_by by e is = let test : (e.by == by) ≡ true = eq-eqb e.by by is in rw test refl
 
+-- an entry of another worker is, on its own, no event of this worker
 none_by : (by : ℕ) (e : Entry) → (e.by ≡ by → ⊥) → length (events_by by (e ∷ [])) ≡ 0
 none_by by e isnt = let test : (e.by == by) ≡ false = ne_eqb e.by by isnt in rw test refl
 
+-- the first n + 1 entries have as many events of a worker as the first n and entry n together
 counted : (by : ℕ) (xs : List Entry) (n : ℕ) (e : Entry) → slice_get xs n ≡ Some e → length (events_by by (take (n + 1) xs)) ≡ length (events_by by (take n xs)) + length (events_by by (e ∷ []))
 counted by xs n e at =
     ap (λ (ys : List Entry). length (events_by by ys)) (take_at xs n e at)
     ∙ ap length (events_by-append by (take n xs) (e ∷ []))
     ∙ length-append (events_by by (take n xs)) (events_by by (e ∷ []))
 
+-- if entry n is a worker's, the first n + 1 entries have one event more of that worker than the first n
 pub counted_own : (by : ℕ) (xs : List Entry) (n : ℕ) (e : Entry) → slice_get xs n ≡ Some e → e.by ≡ by → length (events_by by (take (n + 1) xs)) ≡ length (events_by by (take n xs)) + 1
 counted_own by xs n e at is = counted by xs n e at ∙ ap (λ k. length (events_by by (take n xs)) + k) (one_by by e is)
 
+-- if entry n is another worker's, the first n + 1 entries have as many events of this worker as the first n
 pub counted_other : (by : ℕ) (xs : List Entry) (n : ℕ) (e : Entry) → slice_get xs n ≡ Some e → (e.by ≡ by → ⊥) → length (events_by by (take (n + 1) xs)) ≡ length (events_by by (take n xs))
 counted_other by xs n e at isnt = let none = none_by by e isnt in omega (arith, counted by xs n e at, none)
 
--- what two rendition states say of the bytes that both states keep
+-- if two rendition states keep the same bytes, so do the two states of the channel in their rendition r
 pub sides_same : (a b : State) (r : ℕ) (x y : RenditionState) → HasRenditionState a r x → HasRenditionState b r y → HaveSameBytes (lane_of x) (lane_of y) (held_of x) (held_of y) → (ha hb : HeldBytes) → slice_get a.bytes r ≡ Some ha → slice_get b.bytes r ≡ Some hb → HaveSameBytes (lane (channel a) r) (lane (channel b) r) ha hb
 sides_same a b r x y at_a at_b same ha hb held_a held_b =
     let a_is : held_of x ≡ ha = let was = at_a.held in cc in
@@ -60,6 +64,7 @@ sides_same a b r x y at_a at_b same ha hb held_a held_b =
     (subst (λ (h : HeldBytes). HaveSameBytes (lane_of x) (lane_of y) h hb) a_is
     (subst (λ (h : HeldBytes). HaveSameBytes (lane_of x) (lane_of y) (held_of x) h) b_is same)))
 
+-- if two states of the channel keep the same bytes, so do the states of their rendition r
 pub same_at : (a b : State) (r : ℕ) (x y : RenditionState) → HasRenditionState a r x → HasRenditionState b r y → AllHaveSameBytes a b → HaveSameBytes (lane_of x) (lane_of y) (held_of x) (held_of y)
 same_at a b r x y at_a at_b same =
     let lane_a : lane (channel a) r ≡ lane_of x = at_or (channel a).lanes r no_lane (lane_of x) at_a.lane in
@@ -68,7 +73,7 @@ same_at a b r x y at_a at_b same =
     (subst (λ (l : Lane). HaveSameBytes (lane (channel a) r) l (held_of x) (held_of y)) lane_b
     (same r (held_of x) (held_of y) at_a.held at_b.held))
 
--- one more rendition in which everything that both keep is the same
+-- if two states keep the same bytes in each rendition below n and in rendition n, they do in each below n + 1
 pub same_more : (a b : State) (n : ℕ) (x y : RenditionState) → HasRenditionState a n x → HasRenditionState b n y → HaveSameBytes (lane_of x) (lane_of y) (held_of x) (held_of y)
     → ((r : ℕ) (ha hb : HeldBytes) → r < n → slice_get a.bytes r ≡ Some ha → slice_get b.bytes r ≡ Some hb → HaveSameBytes (lane (channel a) r) (lane (channel b) r) ha hb)
     → (r : ℕ) (ha hb : HeldBytes) → r < n + 1 → slice_get a.bytes r ≡ Some ha → slice_get b.bytes r ≡ Some hb → HaveSameBytes (lane (channel a) r) (lane (channel b) r) ha hb
@@ -81,7 +86,7 @@ same_more a b n x y at_a at_b same before r ha hb below held_a held_b = elim (ca
   | inr other ↦ before r ha hb (omega arith) held_a held_b
 ]
 
--- these three tests decide whether b continues a
+-- b continues a if configurations are equal, the log of a is a prefix of that of b, and what both keep has the same bytes
 pub continues_when : (a b : State) → a.config ≡ b.config → take (length a.log) b.log ≡ a.log → AllHaveSameBytes a b → Extends a b
 continues_when a b config front same =
     let whole : b.log ≡ a.log ++ drop (length a.log) b.log =

@@ -9,10 +9,12 @@ use Rattle.hls_core.specs.Streams.{TakesAll, Wants, WantsFor}
 use Rattle.hls_core.specs.DrainSteps.{Drains, TakenFrom}
 
 module _ {S : Type 0} (Yields : S → Part → S → Result (Unit {0}) FeedFault → Type 0) where
+  -- if parts are accepted and then others, all of them are accepted one after the other
   pub takes_append : (ps qs : List Part) (x y z : S) → TakesAll Yields x ps y → TakesAll Yields y qs z → TakesAll Yields x (ps ++ qs) z
   takes_append [] qs x y z first more = subst (λ (w : S). TakesAll Yields w qs z) first more
   takes_append (p ∷ ps) qs x y z first more = (first.0, first.1, takes_append ps qs first.0 y z first.2 more)
 
+  -- if some parts are cut from a text and one more is taken from the rest, all of them are cut from the text, whatever follows
   cut_more : (text old held more : List ℕ) (parts : List Part) (part : Part) → stream_cut (text ++ more) ≡ after_parts parts (stream_cut (old ++ more)) → TakesFirstPart part old held
       → stream_cut (text ++ more) ≡ after_parts (parts ++ part ∷ []) (stream_cut (held ++ more))
   cut_more text old held more parts part is first =
@@ -24,7 +26,7 @@ module _ {S : Type 0} (Yields : S → Part → S → Result (Unit {0}) FeedFault
   parts_of x y text held h =
       ap (λ (c : StreamCut). c.parts) (ap stream_cut (sym (append-nil text)) ∙ h.follows [] ∙ ap (λ xs. after_parts h.parts (stream_cut xs)) (append-nil held))
 
-  -- one more part
+  -- if some parts are taken from a text, and the next one is taken out and accepted, all of them are taken from the text
   pub taken_part : (x y z : S) (text old held : List ℕ) (part : Part) → TakenFrom Yields x text old y → TakesFirstPart part old held → Yields y part z (Ok tt) → TakenFrom Yields x text held z
   taken_part x y z text old held part h first yields = record {
     parts = h.parts ++ part ∷ [];
@@ -32,10 +34,11 @@ module _ {S : Type 0} (Yields : S → Part → S → Result (Unit {0}) FeedFault
     follows = λ more. cut_more text old held more h.parts part (h.follows more) first;
   }
 
+  -- the next part to be taken out is the next part of the text
   next_of : (x y : S) (text old held : List ℕ) (part : Part) (h : TakenFrom Yields x text old y) → TakesFirstPart part old held → (stream_cut text).parts ≡ h.parts ++ part ∷ (stream_cut held).parts
   next_of x y text old held part h first = parts_of x y text old h ∙ ap (λ (c : StreamCut). h.parts ++ c.parts) first.now
 
-  -- a part that isn't accepted
+  -- if the next part isn't accepted, that is the result of draining the text: it is refused, or memory ran out for it
   pub part_stops : (x y z : S) (text old held : List ℕ) (part : Part) (untaken : FeedFault) → TakenFrom Yields x text old y → TakesFirstPart part old held
       → Yields y part z (Err untaken) → Drains Yields text held x z (Err untaken)
   part_stops x y z text old held part (Refused fault) h first yields = record {
@@ -56,11 +59,12 @@ module _ {S : Type 0} (Yields : S → Part → S → Result (Unit {0}) FeedFault
     runs_out = inr yields;
   }
 
+  -- if nothing changed, memory may have run out before the next part was complete
   pub wants_none : (x : S) (others : List Part) → WantsFor Yields x others x
   wants_none x [] = refl
   wants_none x (part ∷ others) = inl refl
 
-  -- a part that couldn't be taken out
+  -- if no memory is left to take the next part out, memory ran out after the parts so far
   pub wanted_in : (x y : S) (text held : List ℕ) → TakenFrom Yields x text held y → Wants Yields x text y
   wanted_in x y text held h = record {
     taken = h.parts;

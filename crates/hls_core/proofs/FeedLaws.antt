@@ -19,15 +19,19 @@ use Rattle.hls_core.proofs.ShortestLaws.{grows, shortest_fault, shortest_part}
 
 -- ---- texts
 
+-- the parts of a content with a piece are the content's parts, and then those of what is left of it with the piece
 parts_on : (content old piece : List ℕ) → IsLeft content old → (stream_cut (content ++ piece)).parts ≡ (stream_cut content).parts ++ (stream_cut (old ++ piece)).parts
 parts_on content old piece left = ap (λ (c : StreamCut). c.parts) (left piece)
 
+-- a content with a piece has the fault of what is left of the content with the piece
 fault_on : (content old piece : List ℕ) → IsLeft content old → text_fault (content ++ piece) ≡ text_fault (old ++ piece)
 fault_on content old piece left = ap (λ (c : StreamCut). fault_of_rest c.left) (left piece)
 
+-- a content has the remainder of what is left of it
 left_of : (content held : List ℕ) → IsLeft content held → (stream_cut content).left ≡ (stream_cut held).left
 left_of content held left = ap (λ (c : StreamCut). c.left) (ap stream_cut (sym (append-nil content)) ∙ left [] ∙ ap (λ xs. after_parts (stream_cut content).parts (stream_cut xs)) (append-nil held))
 
+-- a remainder that shows a fault is one that was refused for it
 pub left_refused : (left : Remainder) (f : BoxFault) → fault_of_rest left ≡ Some f → left ≡ Broken f
 left_refused Nothing f is = cc
 left_refused (Boxes m) f is = cc
@@ -48,7 +52,7 @@ part_behind content piece taken part size few shows = behind_where content piece
     let whole : (stream_cut content).parts ≡ (stream_cut (take size content)).parts ++ later.0 = ap (λ xs. (stream_cut xs).parts) (sym (take-append-drop size content)) ∙ later.1 in
     absurd (omega (arith, few, ap length whole, length-append (stream_cut (take size content)).parts later.0, ap length front, length-append taken (part ∷ shows.others))))
 
--- .. and so is one that shows a fault where the content shows none
+-- a prefix of both texts that shows a fault, if the content shows none, is longer than the content
 fault_behind : (content piece : List ℕ) (f : BoxFault) (size : ℕ) → text_fault content ≡ None → (stream_cut (content ++ piece)).left ≡ Broken f → IsShortestFault (content ++ piece) size
     → length content < size
 fault_behind content piece f size clean found shows = behind_where content piece size (λ here.
@@ -62,9 +66,11 @@ fault_behind content piece f size clean found shows = behind_where content piece
 
 -- ---- what a piece leaves in the reader
 
+-- if a content shows no fault, what is left of it shows none
 fault_before : (content held : List ℕ) → IsLeft content held → text_fault content ≡ None → text_fault held ≡ None
 fault_before content held left clean = ap fault_of_rest (sym (left_of content held left)) ∙ clean
 
+-- after a piece is refused, but not for memory, a reader whose bytes showed no fault has them and the piece, with the fault
 refusal_is : (f : BoxFault) (old piece held : List ℕ) → text_fault old ≡ None → (f ≡ boxes.Memory → ⊥) → IsFeedRefusal f old piece held → (held ≡ old ++ piece) × (text_fault held ≡ Some f)
 refusal_is boxes.Memory old piece held clean other is = absurd (other refl)
 refusal_is f old piece held clean other is = (is.0 ∙ ap (λ (o : Option BoxFault). bytes_after_feed o old piece) clean, is.1)
@@ -72,6 +78,7 @@ refusal_is f old piece held clean other is = (is.0 ∙ ap (λ (o : Option BoxFau
 module _ {S : Type 0} (Yields : S → Part → S → Result (Unit {0}) FeedFault → Type 0) where
   -- ---- the beginning
 
+  -- before any piece, the empty content is taken, and nothing is left of it
   pub reached_none : (start : S) → Reached Yields start [] [] start
   reached_none start = record {
     taken = record {
@@ -83,6 +90,7 @@ module _ {S : Type 0} (Yields : S → Part → S → Result (Unit {0}) FeedFault
 
   -- ---- a piece that is fed
 
+  -- if all parts of what was left with a piece are taken from it, what is left then is left of the content with the piece
   left_on : (x y : S) (content old piece held : List ℕ) (h : TakenFrom Yields x (old ++ piece) held y) → IsLeft content old → (stream_cut held).parts ≡ [] → IsLeft (content ++ piece) held
   left_on x y content old piece held h left none more =
       let parts : (stream_cut (content ++ piece)).parts ≡ (stream_cut content).parts ++ h.parts =
@@ -93,6 +101,7 @@ module _ {S : Type 0} (Yields : S → Part → S → Result (Unit {0}) FeedFault
       ∙ ap (λ (ps : List Part). record { parts = ps; left = (stream_cut (held ++ more)).left }) (sym (append_assoc (stream_cut content).parts h.parts (stream_cut (held ++ more)).parts))
       ∙ ap (λ (ps : List Part). after_parts ps (stream_cut (held ++ more))) (sym parts)
 
+  -- if all parts of what was left with a piece are taken from it, all parts of the content with the piece are accepted
   takes_on : (start x y : S) (content old piece held : List ℕ) (h : TakenFrom Yields x (old ++ piece) held y) → Reached Yields start content old x → (stream_cut held).parts ≡ []
       → TakesAll Yields start (stream_cut (content ++ piece)).parts y
   takes_on start x y content old piece held h reached none =
@@ -100,6 +109,7 @@ module _ {S : Type 0} (Yields : S → Part → S → Result (Unit {0}) FeedFault
       parts_on content old piece reached.left ∙ ap (λ (ps : List Part). (stream_cut content).parts ++ ps) (parts_of Yields x y (old ++ piece) held h ∙ ap (λ (ps : List Part). h.parts ++ ps) none ∙ append-nil h.parts) in
       subst (λ (ps : List Part). TakesAll Yields start ps y) (sym parts) (takes_append Yields (stream_cut content).parts h.parts start x y reached.taken.takes h.takes)
 
+  -- if a piece shows no fault and all parts are taken out, the content with the piece is taken
   pub reached_on : (start x y : S) (content old piece held : List ℕ) → Reached Yields start content old x → text_fault (old ++ piece) ≡ None
       → Drains Yields (old ++ piece) held x y (Ok tt) → Reached Yields start (content ++ piece) held y
   reached_on start x y content old piece held reached clean drained = record {
@@ -112,6 +122,7 @@ module _ {S : Type 0} (Yields : S → Part → S → Result (Unit {0}) FeedFault
 
   -- ---- a refusal
 
+  -- if draining ends at a part that is refused, it shows after the content; if memory ran out, so it did for content and piece
   stops_behind : (start x y : S) (content old piece held now : List ℕ) (untaken : FeedFault) → Reached Yields start content old x
       → Drains Yields (old ++ piece) held x y (Err untaken) → FeedsBehind Yields start content piece now y (Err untaken)
   stops_behind start x y content old piece held now (Refused fault) reached next =
@@ -139,20 +150,20 @@ module _ {S : Type 0} (Yields : S → Part → S → Result (Unit {0}) FeedFault
     runs_out = runs_out.runs_out;
   }
 
-  -- the effect of a piece that shows no fault
+  -- the result of a piece that shows no fault is that of draining what was left with the piece
   pub goes_behind : (start x y : S) (content old piece held : List ℕ) (result : Result (Unit {0}) FeedFault) → Reached Yields start content old x → text_fault (old ++ piece) ≡ None
       → Drains Yields (old ++ piece) held x y result → FeedsBehind Yields start content piece held y result
   goes_behind start x y content old piece held (Ok done) reached clean drained = reached_on start x y content old piece held reached clean drained
   goes_behind start x y content old piece held (Err untaken) reached clean drained = stops_behind start x y content old piece held held untaken reached drained
 
-  -- a piece that the reader refuses: a part before its fault is refused
+  -- if the reader finds a fault in a piece, and a part before it isn't accepted, that part is the result of the piece
   pub stops_before : (start x y : S) (content old piece held now : List ℕ) (f : BoxFault) (untaken : FeedFault) → (f ≡ boxes.Memory → ⊥) → IsFeedRefusal f old piece held → Reached Yields start content old x
       → Drains Yields held now x y (Err untaken) → FeedsBehind Yields start content piece now y (Err untaken)
   stops_before start x y content old piece held now f untaken other is reached drained =
       let fed = refusal_is f old piece held (fault_before content old reached.left reached.taken.no_fault) other is in
       stops_behind start x y content old piece now now untaken reached (subst (λ (text : List ℕ). Drains Yields text now x y (Err untaken)) fed.0 drained)
 
-  -- .. or its fault shows after all parts
+  -- if the reader finds a fault in a piece, and all parts before it are accepted, the fault is the result of the piece
   pub broken_behind : (start x y : S) (content old piece read held : List ℕ) (f : BoxFault) → (f ≡ boxes.Memory → ⊥) → IsFeedRefusal f old piece read → Reached Yields start content old x
       → Drains Yields read held x y (Ok tt) → RefusesBehind Yields start content piece (faults.Boxes f) y
   broken_behind start x y content old piece read held f other is reached all =
@@ -171,13 +182,14 @@ module _ {S : Type 0} (Yields : S → Part → S → Result (Unit {0}) FeedFault
           shows = shown.1;
         });
       }
-  -- a piece that couldn't be fed
 
 -- ---- the end
 
+-- a content that ends has the fault of what is left of it at its end
 ends_by : (content held : List ℕ) → IsLeft content held → fault_at_end (stream_cut content).left ≡ fault_at_end (stream_cut held).left
 ends_by content held left = ap fault_at_end (left_of content held left)
 
+-- if a remainder shows no fault, its fault at the end is Truncated
 truncated : (left : Remainder) (f : BoxFault) → fault_of_rest left ≡ None → fault_at_end left ≡ Some f → f ≡ boxes.Truncated
 truncated Nothing f clean is = cc
 truncated (Boxes true) f clean is = cc
@@ -185,9 +197,11 @@ truncated (Boxes false) f clean is = cc
 truncated CutShort f clean is = cc
 truncated (Broken g) f clean is = cc
 
+-- if what is left of a content has no fault at its end, the content is complete
 pub ends_whole : (content held : List ℕ) → IsLeft content held → fault_at_end (stream_cut held).left ≡ None → EndsStream content (Ok tt)
 ends_whole content held left is = ends_by content held left ∙ is
 
+-- if what is left of a content without a fault has one at its end, the content ends inside a part
 pub ends_inside : (content held : List ℕ) (f : BoxFault) → text_fault content ≡ None → IsLeft content held → fault_at_end (stream_cut held).left ≡ Some f → EndsStream content (Err (faults.Boxes f))
 ends_inside content held f clean left is =
     let at : fault_at_end (stream_cut content).left ≡ Some f = ends_by content held left ∙ is in

@@ -11,6 +11,7 @@ case_of : (b : Bool) → (b ≡ true) ⊎ (b ≡ false)
 case_of true = inl refl
 case_of false = inr refl
 
+-- below n a test holds nowhere, or there is a least number at which it holds
 none_or_least : (p : ℕ → Bool) (n : ℕ) → ((j : ℕ) → j < n → p j ≡ false) ⊎ Least p n
 none_or_least p zero = inl (λ j low. absurd (omega arith))
 none_or_least p (suc n) =
@@ -22,6 +23,7 @@ none_or_least p (suc n) =
       ]
     ]
 
+-- if a test holds at n, there is a least number up to n at which it holds
 pub least : (p : ℕ → Bool) (n : ℕ) → p n ≡ true → Least p (suc n)
 least p n holds =
     elim (none_or_least p (suc n)) [
@@ -39,6 +41,7 @@ module _ {P : Type 0} (cut : List ℕ → List P) (stays : (x more : List ℕ) �
     pub shows : cut (take size content) ≡ taken ++ part ∷ others
     pub none : (j : ℕ) → j < size → length (cut (take j content)) ≤ length taken
 
+  -- the first k bytes of the content show more parts than were taken
   abbrev is_past : List ℕ → List P → ℕ → Bool
   is_past content taken k = nat_lt (length taken) (length (cut (take k content)))
 
@@ -53,6 +56,7 @@ module _ {P : Type 0} (cut : List ℕ → List P) (stays : (x more : List ℕ) �
       let found = front_of xs later taken others part tails (omega arith) in
       (found.0, ap (λ (t : P). t ∷ xs) same ∙ ap (λ (t : List P). y ∷ t) found.1)
 
+  -- if the content shows a part after those that were taken, there is a shortest prefix that shows it
   pub shortest : (content : List ℕ) (taken others : List P) (part : P) → cut content ≡ taken ++ part ∷ others → IsShortest content taken part
   shortest content taken others part is =
       let whole : take (length content) content ≡ content = take-length content in

@@ -1,3 +1,4 @@
+-- The lemmas on a channel's state: what each event leads to, replaying, comparing states, trimming and sliding, and the units of an upload.
 mod Cited
 mod Names
 mod Runs

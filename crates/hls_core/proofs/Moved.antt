@@ -22,19 +22,22 @@ use Rattle.hls_places_laws.specs.Line.Live.{Live, live_after, live_after_all}
 use Rattle.hls_core.specs.LineState.{IsSameLineState, IsAdvancedLineState, HasRoomFor}
 use Rattle.hls_core.specs.RenditionStates.{lane_of, lane_from, sources_by}
 
+-- the lane of a rendition has the units of its recording
 lane_facts : (o : Option RecordingData) (finished : Bool) (rec : RecordingData) → Some rec ≡ o → rec.facts ≡ (lane_from o finished).facts
 lane_facts None finished rec e = cc
 lane_facts (Some r) finished rec e = ap (λ (x : RecordingData). x.facts) (same_Some rec r e)
 
+-- the lane of a rendition without a recording has no units
 lane_bare : (o : Option RecordingData) (finished : Bool) → o ≡ None → (lane_from o finished).facts ≡ []
 lane_bare None finished e = refl
 lane_bare (Some r) finished e = cc
 
+-- the lane of a rendition is finished exactly if the rendition is
 lane_end : (o : Option RecordingData) (finished : Bool) → finished ≡ (lane_from o finished).finished
 lane_end None finished = refl
 lane_end (Some r) finished = refl
 
--- the renditions up to one that has begun, inclusive
+-- if rendition r has begun, the search sees the first r + 1 renditions as the first r, and then r with its recording's units
 module _ {X : Type 0} where
   pub next_source : (rendition_state : X → RenditionState) (xs : List X) (config : ConfigData) (r : ℕ) (x : X) (t : Rendition) (rec : RecordingData)
       → length config.renditions ≡ length xs → r < length xs → x ≡ get_or xs r x → t ≡ get_or config.renditions r t → (rendition_state x).recording ≡ Some rec
@@ -70,7 +73,7 @@ module _ {X : Type 0} where
       {x = record { facts = get_or (map facts_of lanes) r []; tolerance = get_or (map tolerance_of config.renditions) r 0; finished = get_or (map is_finished lanes) r false }}
       {y = record { facts = rec.facts; tolerance = t.tolerance; finished = (rendition_state x).finished }} here
 
--- there are as many renditions as rendition states
+-- the search sees as many renditions as there are rendition states
 pub by_count : (config : ConfigData) (rendition_states : List RenditionState) → length config.renditions ≡ length rendition_states → length (sources_by config rendition_states) ≡ length rendition_states
 by_count config rendition_states count =
     let lanes : length (map facts_of (map lane_of rendition_states)) ≡ length rendition_states =
@@ -79,14 +82,14 @@ by_count config rendition_states count =
     (length-map config.renditions tolerance_of ∙ count ∙ sym lanes)
     (length-map (map lane_of rendition_states) is_finished ∙ length-map rendition_states lane_of ∙ sym lanes) ∙ lanes
 
--- and as many if the rendition states are shared
+-- the search sees as many renditions as there are shared rendition states
 pub one_each : (config : ConfigData) (rendition_states : List (Arc RenditionState Global)) (found : List Source) → length config.renditions ≡ length rendition_states →
     found ≡ sources_by config (map (λ a. a.value) rendition_states) → length found ≡ length rendition_states
 one_each config rendition_states found count is =
     let all : length (map (λ (a : Arc RenditionState Global). a.value) rendition_states) ≡ length rendition_states = length-map rendition_states (λ a. a.value) in
     ap length is ∙ by_count config (map (λ a. a.value) rendition_states) (count ∙ sym all) ∙ all
 
--- a rendition that hasn't begun has no facts
+-- the search sees a rendition that hasn't begun, without units
 bare : (config : ConfigData) (rendition_states : List RenditionState) → length config.renditions ≡ length rendition_states → (l : HasUnbegunRendition rendition_states) → (l.number < length (sources_by config rendition_states)) × ((source_at (sources_by config rendition_states) l.number).facts ≡ [])
 bare config rendition_states count l =
     let lanes : length (map facts_of (map lane_of rendition_states)) ≡ length rendition_states =
@@ -103,6 +106,7 @@ bare config rendition_states count l =
       rendition_state.facts_are ∙ at_or (map facts_of (map lane_of rendition_states)) l.number [] (lane_of l.rendition_state).facts at ∙ lane_bare l.rendition_state.recording l.rendition_state.finished l.none,
     )
 
+-- the elements from index n on are the one at n and those after it
 drop_at : (xs : List Place) (n : ℕ) (q : Place) → slice_get xs n ≡ Some q → drop n xs ≡ q ∷ drop (n + 1) xs
 drop_at [] n q at = cc
 drop_at (x ∷ xs) zero q at = let is : x ≡ q = cc in ap (λ y. y ∷ xs) is
@@ -110,24 +114,26 @@ drop_at (x ∷ xs) (suc n) q at =
     let step : suc n + 1 ≡ suc (n + 1) = omega arith in
     rw step (drop_at xs n q at)
 
--- a line that is given no places
+-- the line after no more places is the same line
 none_told : (live : Live) → live_after_all live [] ≡ live
 none_told live = let same = progress-none live.line_goal live.removed live.progress in
     λ k. record { line_goal = live.line_goal; progress = same k; removed = live.removed; breaks = live.breaks }
 
--- and one place, and then the others
+-- the line after one more place and then the others is the line after all of them
 told_on : (live : Live) (q : Place) (rest : List Place) → live_after_all (live_after live q) rest ≡ live_after_all live (q ∷ rest)
 told_on live q rest = let same = sym (progress-more live.line_goal live.removed live.progress q rest) in
     λ k. record { line_goal = live.line_goal; progress = same k; removed = live.removed; breaks = live.breaks }
 
--- one place after the other
+-- the line `now` after the places of `rest` is the first line after all places, and it has room for them
 pub record IsTold (first : Live) (all : List Place) (now : Live) (rest : List Place) : Type 0 where
   pub same : live_after_all now rest ≡ live_after_all first all
   pub can : HasRoomFor now rest
 
+-- the first line has all places before it
 pub told_from : (first : Live) (all : List Place) → HasRoomFor first all → IsTold first all first all
 told_from first all can = record { same = refl; can = can }
 
+-- when a line takes place n of the rest, those from n + 1 on are left
 pub told_next : (first : Live) (all : List Place) (now next : Live) (rest : List Place) (n : ℕ) (q : Place) → slice_get rest n ≡ Some q → IsTold first all now (drop n rest) → next ≡ live_after now q → IsTold first all next (drop (n + 1) rest)
 told_next first all now next rest n q at t is =
     let split : drop n rest ≡ q ∷ drop (n + 1) rest = drop_at rest n q at in
@@ -138,15 +144,17 @@ told_next first all now next rest n q at t is =
       can = record { room = omega (arith, whole.can.room, few); spots = λ k p there. whole.can.spots (suc k) p there };
     })
 
+-- when no place is left, the line is the first line after all places
 pub told_end : (first : Live) (all : List Place) (now : Live) (rest : List Place) (n : ℕ) → length rest ≤ n → IsTold first all now (drop n rest) → now ≡ live_after_all first all
 told_end first all now rest n past t =
     let none : drop n rest ≡ [] = drop_all n rest past in
     sym (none_told now) ∙ ap (live_after_all now) (sym none) ∙ t.same
 
+-- a line has room for the next place and those after it
 pub told_here : (first : Live) (all : List Place) (now : Live) (rest : List Place) (n : ℕ) (q : Place) → slice_get rest n ≡ Some q → IsTold first all now (drop n rest) → HasRoomFor now (q ∷ drop (n + 1) rest)
 told_here first all now rest n q at t = subst (λ (xs : List Place). HasRoomFor now xs) (drop_at rest n q at) t.can
 
--- rendition states that are shared again are the same
+-- if shared rendition states are equal one by one, the lists of them are equal
 pub same_values : (xs ys : List (Arc RenditionState Global)) → AllZip (λ x y. y.value ≡ x.value) xs ys → map (λ a. a.value) ys ≡ map (λ a. a.value) xs
 same_values [] [] same = refl
 same_values [] (y ∷ ys) same = absurd same
@@ -154,15 +162,16 @@ same_values (x ∷ xs) [] same = absurd same
 same_values (x ∷ xs) (y ∷ ys) same =
     ap (λ (s : RenditionState). s ∷ map (λ (a : Arc RenditionState Global). a.value) ys) same.0 ∙ ap (λ (ss : List RenditionState). x.value ∷ ss) (same_values xs ys same.1)
 
--- a value equals itself
+-- a line state that equals the old one has the same places, cursor and line
 pub same_placed : (old p : LineState) → p ≡ old → IsSameLineState old p
 same_placed old p is = subst (λ (x : LineState). IsSameLineState old x) (sym is) (record { places = refl; cursor = refl; line_is = refl })
 
--- what follows from a property of a result's value, if it has one
+-- if one property of a value implies another, and a result's value, if it has one, has the first, it has the second
 pub when_ok : {T E : Type 0} {P Q : T → Type 0} (r : Result T E) → ((x : T) → P x → Q x) → IfOk r P → IfOk r Q
 when_ok (Ok x) follows is = follows x is
 when_ok (Err e) follows is = is
 
+-- while some rendition hasn't begun, a line state that stays the same is advanced: there is no further place
 pub placed_without : (config : ConfigData) (rendition_states : List RenditionState) (old p : LineState) → length config.renditions ≡ length rendition_states → HasUnbegunRendition rendition_states → IsCursor old.cursor.value (sources_by config rendition_states) → IsSameLineState old p → IsAdvancedLineState (sources_by config rendition_states) old p
 placed_without config rendition_states old p count l fits same =
     let source = bare config rendition_states count l in

@@ -10,10 +10,11 @@ use Rattle.hls_boxes.proofs.Callers.{in_order, stay}
 use Rattle.hls_core.specs.Shortest.{ShortestPartExists, ShortestFaultExists}
 use Rattle.hls_core.proofs.Least.{least, shortest}
 
+-- the parts of a text
 abbrev parts_of : List ℕ → List Part
 parts_of x = (stream_cut x).parts
 
--- the parts of a text stay the first parts, whatever follows
+-- these parts of a text stay the first parts, whatever follows
 grows_by : (ps : List Part) (x more : List ℕ) → parts_of x ≡ ps → (later : List Part) × (parts_of (x ++ more) ≡ ps ++ later)
 grows_by [] x more is = (parts_of (x ++ more), refl)
 grows_by (p ∷ ps) x more is =
@@ -24,17 +25,21 @@ grows_by (p ∷ ps) x more is =
     let later = grows_by ps rest more after_content in
     (later.0, ap (λ (c : StreamCut). c.parts) (in_order x p ps is more) ∙ ap (λ (t : List Part). p ∷ t) later.1)
 
+-- the parts of a text are the first parts of each text that begins with it
 pub grows : (x more : List ℕ) → (later : List Part) × (parts_of (x ++ more) ≡ parts_of x ++ later)
 grows x more = grows_by (parts_of x) x more refl
 
+-- if a content shows a part after others, there is a shortest prefix of the content that shows it
 pub shortest_part : ShortestPartExists
 shortest_part content taken others part is =
     let x = shortest parts_of grows content taken others part is in
     (x.size, record { within = x.within; others = x.others; shows = x.shows; none = x.none })
 
+-- the first k bytes of a content show the fault of a box
 abbrev has_fault : List ℕ → ℕ → Bool
 has_fault content k = is_some (text_fault (take k content))
 
+-- a remainder that shows a fault is one that was refused for it
 refused_at : (left : Remainder) → is_some (fault_of_rest left) ≡ true → (fault : BoxFault) × (left ≡ Refused fault)
 refused_at Nothing is = absurd (cc)
 refused_at (Boxes has_moof) is = absurd (cc)
@@ -47,6 +52,7 @@ none_at (Boxes has_moof) is = refl
 none_at CutShort is = refl
 none_at (Refused fault) is = absurd (cc)
 
+-- if a content shows the fault of a box, there is a shortest prefix of the content that shows it
 pub shortest_fault : ShortestFaultExists
 shortest_fault content fault is =
     let whole : take (length content) content ≡ content = take-length content in

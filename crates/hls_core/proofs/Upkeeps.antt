@@ -23,16 +23,18 @@ use Rattle.hls_core.specs.TrimPlaces.{IsOldUntil, NoneOld, IsTrimPlaceAt, HasNoT
 use Rattle.hls_core.specs.KeptPlaces.{IsLastKeptBy, NoKeptBy}
 use Rattle.hls_core.proofs.KeptPlaces.{one-more}
 
--- old places, in terms of times
+-- an old place isn't after the front place, and is at least `keep` microseconds before the last one
 old-parts : (keep : ℕ) (front last p : Place) → is_old keep front last p ≡ true → (time_of p ≤ time_of front) × (time_of p + keep ≤ time_of last)
 old-parts keep front last p is =
     let parts = and_parts (leb (time_of p) (time_of front)) (leb (time_of p + keep) (time_of last)) is in
     (leb-true (time_of p) (time_of front) parts.0, leb-true (time_of p + keep) (time_of last) parts.1)
 
+-- a place is old if it isn't after the front place and is at least `keep` microseconds before the last one
 old-of : (keep : ℕ) (front last p : Place) → time_of p ≤ time_of front → time_of p + keep ≤ time_of last → is_old keep front last p ≡ true
 old-of keep front last p early by =
     and_from (leb (time_of p) (time_of front)) (leb (time_of p + keep) (time_of last)) (le-leb _ _ early) (le-leb _ _ by)
 
+-- places are old until the last time that isn't after the front place and is at least `keep` microseconds before the last place
 pub old-until : (s : State) (keep time : ℕ) (front last : Place) → front_of (line s) ≡ Some front →
     slice_get (places s) (length (places s) - 1) ≡ Some last → time ≤ time_of front → time + keep ≤ time_of last →
     ((t : ℕ) → t ≤ time_of front → t + keep ≤ time_of last → t ≤ time) → IsOldUntil s keep time
@@ -46,22 +48,25 @@ old-until s keep time front last front_is last_is early by most = record {
   most = λ p old. let parts = old-parts keep front last p old in most (time_of p) parts.0 parts.1;
 }
 
+-- without a front place no place is old
 pub none-front : (s : State) (keep : ℕ) → front_of (line s) ≡ None → NoneOld s keep
 none-front s keep none front last p is last_is old =
     let never : None ≡ Some front = sym none ∙ is in
     absurd (cc)
 
+-- without a last place no place is old
 pub none-last : (s : State) (keep : ℕ) → slice_get (places s) (length (places s) - 1) ≡ None → NoneOld s keep
 none-last s keep none front last p is last_is old =
     let never : None ≡ Some last = sym none ∙ last_is in
     absurd (cc)
 
+-- if the last place is less than `keep` microseconds after time 0, no place is old
 pub none-long : (s : State) (keep : ℕ) (end : Place) → slice_get (places s) (length (places s) - 1) ≡ Some end → time_of end < keep → NoneOld s keep
 none-long s keep end there short front last p is last_is old =
     let same : end ≡ last = same_Some end last (sym there ∙ last_is) in
     absurd (omega (arith, short, ap time_of same, (old-parts keep front last p old).1))
 
--- the trim place
+-- the trim place is old
 old-in : (s : State) (keep time window : ℕ) (cut : Place) (until : IsOldUntil s keep time) (is : IsTrimPlaceOf (upkeep_view s window keep) cut) → is_old keep until.front until.last cut ≡ true
 old-in s keep time window cut until is =
     let front : is.front ≡ until.front = same_Some is.front until.front (sym is.front_is ∙ until.front_is) in
@@ -69,13 +74,16 @@ old-in s keep time window cut until is =
     subst (λ (l : Place). is_old keep until.front l cut ≡ true) last
     (subst (λ (f : Place). is_old keep f is.last cut ≡ true) front is.old)
 
+-- if no place is old, there is no trim place
 pub no-cut-old : (s : State) (keep : ℕ) → NoneOld s keep → HasNoTrimPlace s keep
 no-cut-old s keep none window cut is = none is.front is.last cut is.front_is is.last_is is.old
 
+-- if no kept place is at or before the time until which places are old, there is no trim place
 pub no-cut : (s : State) (keep time : ℕ) → IsOldUntil s keep time → NoKeptBy s time → HasNoTrimPlace s keep
 no-cut s keep time until none window cut is =
     absurd (omega (arith, until.most cut (old-in s keep time window cut until is), none is.number cut is.there is.kept))
 
+-- the last kept place by the time until which places are old is the trim place
 pub cut-is : (s : State) (keep time n : ℕ) (p : Place) → IsOldUntil s keep time → IsLastKeptBy s time n → slice_get (places s) n ≡ Some p → IsTrimPlaceAt s keep p
 cut-is s keep time n p until last at window =
     let early : time_of p ≤ time = last.by.early n p (omega arith) at in
@@ -96,7 +104,7 @@ cut-is s keep time n p until last at window =
           ];
     }
 
--- which event the upkeep is
+-- once the line has ended, nothing is due
 pub ended-idle : (s : State) (window keep : ℕ) → has_ended (line s) ≡ true → IsUpkeepOf s window keep None
 ended-idle s window keep over = record {
   upkeep = Idle;
@@ -107,15 +115,18 @@ ended-idle s window keep over = record {
   event_is = refl;
 }
 
+-- if the line hasn't ended and may slide, a slide by the greatest number of segments is due
 pub slides-on : (s : State) (window keep count : ℕ) → has_ended (line s) ≡ false → IsMostSlide (line s) window count → 0 < count →
     IsSlide (upkeep_view s window keep) count
 slides-on s window keep count on most some = record { not_ended = on; some = some; most = most }
 
+-- if no segment may be removed, no slide is due
 no-slide : (s : State) (window keep n : ℕ) → IsMostSlide (line s) window 0 → IsSlide (upkeep_view s window keep) n → ⊥
 no-slide s window keep n most slide =
     let few = most.most n (slide.most.leaves slide.some) in
     absurd (omega (arith, few, slide.some))
 
+-- if no segment may be removed and there is no trim place, nothing is due
 pub uncut-idle : (s : State) (window keep : ℕ) → IsMostSlide (line s) window 0 → HasNoTrimPlace s keep → IsUpkeepOf s window keep None
 uncut-idle s window keep most none = record {
   upkeep = Idle;
@@ -123,6 +134,7 @@ uncut-idle s window keep most none = record {
   event_is = refl;
 }
 
+-- if no segment may be removed and no floor is below the trim place, nothing is due
 pub trimmed-idle : (s : State) (window keep : ℕ) (cut : Place) → IsMostSlide (line s) window 0 → IsTrimPlaceAt s keep cut →
     ReachedBefore s cut (length (floors s)) → IsUpkeepOf s window keep None
 trimmed-idle s window keep cut most is reached = record {
@@ -142,6 +154,7 @@ trimmed-idle s window keep cut most is reached = record {
   event_is = refl;
 }
 
+-- if no segment may be removed, the first rendition whose floor is below the trim place is due to be trimmed to it
 pub trims-to : (s : State) (window keep : ℕ) (cut : Place) (event : Event) → has_ended (line s) ≡ false → IsMostSlide (line s) window 0 →
     IsTrimPlaceAt s keep cut → (below : IsFirstBelow s cut event) → IsTrim (upkeep_view s window keep) below.rendition below.floor
 trims-to s window keep cut event on most is below = record {
@@ -155,10 +168,11 @@ trims-to s window keep cut event on most is below = record {
   others = below.before;
 }
 
--- only a full log or an allocation failure refuses it
+-- a slide that is due is New unless the log is full
 pub slide-accepted : (s : State) (window keep count : ℕ) → IsSlide (upkeep_view s window keep) count → outcome_of s (Slide count) ≡ new_or_full (length s.log)
 slide-accepted s window keep count is = ap (λ may. slide may (length s.log)) (upkeep-slides (upkeep_view s window keep) count is)
 
+-- a trim that raises a floor, and not above the front place, is New unless the log is full
 trim-passed : (s : State) (r floor : ℕ) (l : Lane) (o : Option Place) (front : Place) → slice_get (channel s).lanes r ≡ Some l → o ≡ Some front → l.floor < floor →
     floor ≤ (spot_in front.spots r).fragment → trim (slice_get (channel s).lanes r) (trim_limit o r) floor (length s.log) ≡ new_or_full (length s.log)
 trim-passed s r floor l o front at is rises within =
@@ -167,6 +181,7 @@ trim-passed s r floor l o front at is rises within =
     ∙ (cond-false (leb floor l.floor) _ _ (lt-leb floor l.floor rises)
     ∙ cond-false (ltb (spot_in front.spots r).fragment floor) _ _ (le-ltb (spot_in front.spots r).fragment floor within)))
 
+-- a trim that is due is New unless the log is full
 pub trim-accepted : (s : State) → IsState s → (window keep r floor : ℕ) → IsTrim (upkeep_view s window keep) r floor →
     outcome_of s (Trim r floor) ≡ new_or_full (length s.log)
 trim-accepted s state window keep r floor is =
@@ -176,11 +191,12 @@ trim-accepted s state window keep r floor is =
     let old : get_or (floors s) r 0 ≡ l.0.floor = at_or (floors s) r 0 l.0.floor (at_map floor_of (channel s).lanes r l.0 l.1) in
     trim-passed s r floor l.0 (front_of (line s)) raises.front l.1 raises.front_is (omega (arith, raises.rises, old)) raises.stays
 
+-- if no floor before rendition r, nor that of r, is below a place, no floor before r + 1 is
 pub reached-more : (s : State) (p : Place) (r : ℕ) → ReachedBefore s p r → (spot_in p.spots r).fragment ≤ slice_index (floors s) r → ReachedBefore s p (r + 1)
 reached-more s p r before here =
     one-more (λ k. (spot_in p.spots k).fragment ≤ slice_index (floors s) k) r before here
 
--- the results of a search for a rendition to trim
+-- if no segment may be removed, what a search for a rendition to trim finds is the upkeep: its trim, or nothing
 pub trimmed-by : (s : State) (window keep : ℕ) (cut : Place) (found : Option Event) → has_ended (line s) ≡ false → IsMostSlide (line s) window 0 → IsTrimPlaceAt s keep cut →
     IfSome found (IsFirstBelow s cut) → IfNone found (ReachedBefore s cut (length (floors s))) → IsUpkeepOf s window keep found
 trimmed-by s window keep cut None on most is some none = trimmed-idle s window keep cut most is none
@@ -190,13 +206,14 @@ trimmed-by s window keep cut (Some event) on most is below none = record {
   event_is = ap (λ (e : Event). Some e) below.is;
 }
 
--- the event of the upkeep is refused only for a full log or an allocation failure
+-- the event of an upkeep that is due is New unless the log is full
 accepted-as : (s : State) → IsState s → (window keep : ℕ) (upkeep : Upkeep) → IsUpkeep (upkeep_view s window keep) upkeep →
     IfSome (event_of upkeep) (λ event. outcome_of s event ≡ new_or_full (length s.log))
 accepted-as s state window keep Idle is = tt
 accepted-as s state window keep (Slides count) is = slide-accepted s window keep count is
 accepted-as s state window keep (Trims r floor) is = trim-accepted s state window keep r floor is
 
+-- the event that was found as a state's upkeep is New unless the log is full
 pub upkeep-accepted : (s : State) → IsState s → (window keep : ℕ) (found : Option Event) → IsUpkeepOf s window keep found →
     IfSome found (λ event. outcome_of s event ≡ new_or_full (length s.log))
 upkeep-accepted s state window keep found is =

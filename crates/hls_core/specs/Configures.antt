@@ -9,14 +9,15 @@ use Rattle.hls_core.specs.declared.config.ConfigFault.TheVariants.{BadTarget, Ba
 use Rattle.hls_core.specs.FirstBad.{IsFirstBadRendition}
 use Rattle.hls_check_tables.specs.Tables.{target_limit}
 
+-- the configuration with these parts, which nothing precedes
 abbrev pub configured_from : ℕ → ℕ → List Rendition → Option ℤ → ConfigData
 configured_from target preferred rs epoch = record { target = target; preferred = preferred; renditions = rs; epoch = epoch; base = no_base }
 
--- without an epoch
+-- the configuration with these parts and without an epoch
 abbrev pub configured : ℕ → ℕ → List Rendition → ConfigData
 configured target preferred rs = configured_from target preferred rs None
 
--- the first cause, in this order; running out of memory comes last
+-- the result for a configuration with these parts: valid, or its first fault in this order; running out of memory comes last
 abbrev pub Configures : ℕ → ℕ → List Rendition → Option ℤ → Result Config ConfigFault → Type 0
 Configures target preferred rs epoch (Ok c) = (c ≡ configured_from target preferred rs epoch) × IsConfig (configured_from target preferred rs epoch)
 Configures target preferred rs epoch (Err BadTarget) = (target ≡ 0) ⊎ (target_limit < target)

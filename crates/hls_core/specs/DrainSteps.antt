@@ -25,7 +25,7 @@ module _ {S : Type 0} (Yields : S → Part → S → Result (Unit {0}) FeedFault
     pub next : (stream_cut text).parts ≡ taken ++ part ∷ others
     pub refuses : Yields last part y (Err (Refused fault))
 
-  -- all whole parts of the text are taken out; or one is refused; or memory ran out
+  -- all complete parts of the text are taken out and accepted, or one of them is refused, or memory ran out
   abbrev pub Drains : List ℕ → List ℕ → S → S → Result (Unit {0}) FeedFault → Type 0
   Drains text held x y (Ok done) = TakenFrom x text held y × ((stream_cut held).parts ≡ []) × (text_fault held ≡ text_fault text)
   Drains text held x y (Err (Refused fault)) = RefusesNext x text fault y

@@ -6,7 +6,7 @@ use Rattle.hls_core_laws.specs.RefusalName as core
 use Rattle.hls_core.specs.declared.feed_fault.StreamFault.{StreamFault}
 use Rattle.hls_core.specs.declared.feed_fault.StreamFault.TheVariants.{Boxes, Media, Core, AheadOfChannel}
 
--- the name of the deepest fault
+-- the name of a stream's fault: that of the fault inside it, if there is one
 abbrev pub name_of : StreamFault → List ℕ
 name_of (Boxes fault) = boxes.box_fault_name fault
 name_of (Media fault) = media.media_fault_name fault

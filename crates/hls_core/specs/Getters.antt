@@ -7,10 +7,12 @@ use Rattle.hls_core_laws.specs.Channel.{Lane}
 use Rattle.hls_core_laws.specs.State.{State, HeldBytes, channel}
 use Rattle.hls_core_laws.specs.Outcome.{held_bytes}
 
+-- the recording of a lane with an init section and of its kept bytes; none without an init section
 abbrev pub recorded_from : Option InitData → Lane → HeldBytes → Option RecordingData
 recorded_from None l h = None
 recorded_from (Some init) l h = Some (record { init = init; head = h.head; facts = l.facts; floor = l.floor; units = h.units })
 
+-- the recording of a lane, if the channel has this rendition and it has begun
 abbrev pub recorded_at : Option Lane → HeldBytes → Option RecordingData
 recorded_at None h = None
 recorded_at (Some l) h = recorded_from l.init l h

@@ -1,3 +1,4 @@
+-- What a channel's state is and what each event makes of it; which configurations are valid, and which places and units are kept.
 pub mod FirstBad
 pub mod ConfigFaultName
 pub mod Bases

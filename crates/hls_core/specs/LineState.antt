@@ -12,7 +12,7 @@ use Rattle.hls_core_laws.specs.Config.{ConfigData}
 use Rattle.hls_core_laws.specs.Line.{line_goal_of}
 use Rattle.hls_core.specs.declared.line_state.LineState.{LineState}
 
--- no place yet
+-- no place yet: the cursor is before all units, and the line is empty
 pub record IsFirstLineState (config : ConfigData) (p : LineState) : Type 0 where
   pub places : p.places ≡ record { first = 0; items = [] }
   pub cursor : p.cursor.value ≡ first_cursor (length config.renditions)
@@ -24,24 +24,24 @@ pub record HasLine (old : LineState) (line : Live) (p : LineState) : Type 0 wher
   pub cursor : p.cursor.value ≡ old.cursor.value
   pub line_is : p.line.value ≡ line
 
--- the same
+-- the same places, cursor and line
 abbrev pub IsSameLineState : LineState → LineState → Type 0
 IsSameLineState old p = HasLine old old.line.value p
 
--- the places so far, then those that an advance passed, which the line takes, too
+-- the places so far and then those that an advance passed; the line is the old one after these places
 pub record IsAfterAdvance (old : LineState) (advance : PlaceAdvance) (p : LineState) : Type 0 where
   pub places : p.places ≡ record { first = old.places.first; items = old.places.items ++ advance.places.items }
   pub cursor : p.cursor.value ≡ advance.cursor
   pub line_is : p.line.value ≡ live_after_all old.line.value advance.places.items
 
--- the places so far, then all places from there on, which the line takes, too
+-- the places so far and then all further ones; the cursor is after the last place, and the line is the old one after the further ones
 pub record IsAdvancedLineState (sources : List Source) (old p : LineState) : Type 0 where
   pub places : p.places ≡ record { first = old.places.first; items = old.places.items ++ places_after sources old.cursor.value.done }
   pub cursor : IsCursor p.cursor.value sources
   pub exhausted : IsExhausted p.cursor.value sources
   pub line_is : p.line.value ≡ live_after_all old.line.value (places_after sources old.cursor.value.done)
 
--- a line with room for what these places close, at most two segments each
+-- a line with room for the segments that these places close, at most two each; each place has a spot
 pub record HasRoomFor (line : Live) (places : List Place) : Type 0 where
   pub room : line.removed + length line.progress.line.segments + 2 * length places + 1 < list_limit
   pub spots : (k : ℕ) (p : Place) → slice_get places k ≡ Some p → 0 < length p.spots

@@ -26,7 +26,7 @@ BeginMeets s r bytes (Ok true) = MayBegin s r
 BeginMeets s r bytes (Ok false) = begin (slice_get (channel s).lanes r) (held_bytes s r) bytes (length s.log) ≡ Repeated
 BeginMeets s r bytes (Err refusal) = (init : InitData) → IsRefused s (Begin r init bytes) refusal
 
--- a rendition with this recording, after which a unit may follow
+-- a rendition with this recording, to which the unit may be appended if there is room for its bytes
 pub record MayAccept (s : State) (r : ℕ) (f : Facts) (rec : RecordingData) : Type 0 where
   pub old : RenditionState
   pub at : HasRenditionState s r old

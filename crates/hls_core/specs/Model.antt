@@ -14,12 +14,16 @@ use Rattle.hls_core.specs.declared.rendition_state.RenditionState.{RenditionStat
 use Rattle.hls_core.specs.declared.snapshot.Snapshot.TheInside.{Inside}
 use Rattle.hls_core.specs.RenditionStates.{lane_of, held_of, HasValidRecording}
 
+-- the states of a snapshot's renditions, in their order
 abbrev pub rendition_states_of : Inside → List RenditionState
 rendition_states_of i = map (λ a. a.value) i.rendition_states.items
 
+-- the state that a snapshot's parts represent: configuration, log, and the bytes that each rendition keeps
 abbrev pub model_of : Inside → State
 model_of i = record { config = i.config; log = i.log.items; bytes = map held_of (rendition_states_of i) }
 
+-- a snapshot represents a state; its log counts from 0, its recordings are valid, and its lanes, places, cursor and live line are
+-- those of that state
 pub record IsSoundSnapshot (i : Inside) : Type 0 where
   pub all : i.log.first ≡ 0
   pub lanes : map lane_of (rendition_states_of i) ≡ (channel (model_of i)).lanes
@@ -32,6 +36,6 @@ pub record IsSoundSnapshot (i : Inside) : Type 0 where
   -- and the live line of these places
   pub line_is : i.line_state.value.line.value ≡ line (model_of i)
 
--- the parts after one more entry: these rendition states and places
+-- the parts of a snapshot after one more entry, with these rendition states and this line state
 abbrev pub inside_after : State → Entry → Vec (Arc RenditionState Global) Global → Arc LineState Global → Inside
 inside_after s entry rendition_states line_state = record { config = s.config; log = record { first = 0; items = s.log ++ entry ∷ [] }; rendition_states = rendition_states; line_state = line_state }

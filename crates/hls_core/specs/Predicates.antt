@@ -13,14 +13,15 @@ abbrev pub satisfies : State → PlacePredicate → Place → Bool
 satisfies s (AtOrBefore time) p = nat_le (time_of p) time
 satisfies s Trimmed p = not (is_kept (floors s) p)
 
--- each place below a number satisfies it, and none from that number on
+-- each place below a number satisfies the predicate
 abbrev pub SatisfyBelow : State → PlacePredicate → ℕ → Type 0
 SatisfyBelow s predicate n = (k : ℕ) (p : Place) → k < n → slice_get (places s) k ≡ Some p → satisfies s predicate p ≡ true
 
+-- no place from a number on satisfies the predicate
 abbrev pub NoneSatisfiesFrom : State → PlacePredicate → ℕ → Type 0
 NoneSatisfiesFrom s predicate n = (k : ℕ) (p : Place) → n ≤ k → slice_get (places s) k ≡ Some p → satisfies s predicate p ≡ false
 
--- exactly the first `count` places satisfy it
+-- exactly the first `count` places satisfy the predicate
 pub record IsFront (s : State) (predicate : PlacePredicate) (count : ℕ) : Type 0 where
   pub few : count ≤ length (places s)
   pub met : SatisfyBelow s predicate count

@@ -15,30 +15,34 @@ use Rattle.hls_core_laws.specs.State.{State, HeldBytes, no_bytes, channel}
 use Rattle.hls_core_laws.specs.IsState.{IsState}
 use Rattle.hls_core.specs.declared.rendition_state.RenditionState.{RenditionState}
 
+-- the lane of a rendition, by its recording, if it has one, and by whether it is finished
 abbrev pub lane_from : Option RecordingData → Bool → Lane
 lane_from None finished = record { init = None; size = 0; facts = []; floor = 0; finished = finished }
 lane_from (Some r) finished = record { init = Some r.init; size = length r.head; facts = r.facts; floor = r.floor; finished = finished }
 
+-- the lane that a rendition state represents
 abbrev pub lane_of : RenditionState → Lane
 lane_of rendition_state = lane_from rendition_state.recording rendition_state.finished
 
+-- the kept bytes of a recording; no bytes without one
 abbrev pub held_from : Option RecordingData → HeldBytes
 held_from None = no_bytes
 held_from (Some r) = record { head = r.head; units = r.units }
 
+-- the kept bytes of a rendition state
 abbrev pub held_of : RenditionState → HeldBytes
 held_of rendition_state = held_from rendition_state.recording
 
--- a rendition that hasn't begun
+-- the state of a rendition that hasn't begun
 abbrev pub fresh_rendition_state : Rendition → RenditionState
 fresh_rendition_state _ = record { recording = None; finished = false }
 
--- the rendition state is number r of the state
+-- the rendition state is that of rendition r: the channel has its lane at r, and the state keeps its bytes
 pub record HasRenditionState (s : State) (r : ℕ) (rendition_state : RenditionState) : Type 0 where
   pub lane : slice_get (channel s).lanes r ≡ Some (lane_of rendition_state)
   pub held : slice_get s.bytes r ≡ Some (held_of rendition_state)
 
--- the state with one more entry, and this rendition state at number r
+-- the state with one more entry, and with the kept bytes of this rendition state at number r
 abbrev pub with_rendition : State → Entry → ℕ → RenditionState → State
 with_rendition s entry r rendition_state = record { config = s.config; log = s.log ++ entry ∷ []; bytes = slice_set s.bytes r (held_of rendition_state) }
 

@@ -11,6 +11,7 @@ pub record IsShortestPart (content : List ℕ) (taken : List Part) (part : Part)
   pub shows : (stream_cut (take size content)).parts ≡ taken ++ part ∷ others
   pub none : (j : ℕ) → j < size → length (stream_cut (take j content)).parts ≤ length taken
 
+-- if a content shows a part after others, there is a shortest prefix of the content that shows it
 abbrev pub ShortestPartExists : Type 0
 ShortestPartExists =
     (content : List ℕ) (taken others : List Part) (part : Part) → (stream_cut content).parts ≡ taken ++ part ∷ others
@@ -22,6 +23,7 @@ pub record IsShortestFault (content : List ℕ) (size : ℕ) : Type 0 where
   pub shows : stream_cut (take size content) ≡ stream_cut content
   pub none : (j : ℕ) → j < size → text_fault (take j content) ≡ None
 
+-- if a content shows the fault of a box, there is a shortest prefix of the content that shows it
 abbrev pub ShortestFaultExists : Type 0
 ShortestFaultExists =
     (content : List ℕ) (fault : BoxFault) → (stream_cut content).left ≡ Refused fault → (size : ℕ) × IsShortestFault content size

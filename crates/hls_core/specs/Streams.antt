@@ -41,6 +41,7 @@ module _ {S : Type 0} (Yields : S → Part → S → Result (Unit {0}) FeedFault
     pub found : text_fault content ≡ Some box
     pub shows : IsShortestFault content size
 
+  -- the first `size` bytes of the content, and no fewer, show a part that is refused, or the fault of a box
   abbrev pub Refuses : S → List ℕ → ℕ → StreamFault → S → Type 0
   Refuses start content size fault y = RefusesPart start content size fault y ⊎ RefusesBox start content size fault y
 
@@ -49,7 +50,7 @@ module _ {S : Type 0} (Yields : S → Part → S → Result (Unit {0}) FeedFault
   WantsFor x [] y = y ≡ x
   WantsFor x (part ∷ others) y = (y ≡ x) ⊎ Yields x part y (Err Memory)
 
-  -- .. after some parts of the content, which are accepted
+  -- memory ran out after some parts of the content, which are accepted
   pub record Wants (start : S) (content : List ℕ) (y : S) : Type 0 where
     pub taken : List Part
     pub others : List Part
@@ -72,6 +73,7 @@ abbrev pub IsLeft : List ℕ → List ℕ → Type 0
 IsLeft content held = (more : List ℕ) → stream_cut (content ++ more) ≡ after_parts (stream_cut content).parts (stream_cut (held ++ more))
 
 module _ {S : Type 0} (Yields : S → Part → S → Result (Unit {0}) FeedFault → Type 0) where
+  -- the parts of the content are accepted, it shows no fault, and `held` is what is left of it
   pub record Reached (start : S) (content held : List ℕ) (y : S) : Type 0 where
     pub taken : IsTaken Yields start content y
     pub left : IsLeft content held
@@ -82,12 +84,13 @@ module _ {S : Type 0} (Yields : S → Part → S → Result (Unit {0}) FeedFault
     pub after_content : length content < size
     pub refuses : Refuses Yields start (content ++ piece) size fault y
 
+  -- the result of one more piece after the content: both are taken, a refusal shows in the piece, or memory ran out
   abbrev pub FeedsBehind : S → List ℕ → List ℕ → List ℕ → S → Result (Unit {0}) FeedFault → Type 0
   FeedsBehind start content piece held y (Ok done) = Reached start (content ++ piece) held y
   FeedsBehind start content piece held y (Err (Refused fault)) = RefusesBehind start content piece fault y
   FeedsBehind start content piece held y (Err Memory) = Wants Yields start (content ++ piece) y
 
-  -- one more piece, whatever content led here
+  -- the result of one more piece, whatever content led here
   abbrev pub Feeds : List ℕ → List ℕ → List ℕ → S → S → Result (Unit {0}) FeedFault → Type 0
   Feeds old piece held x y result =
       (start : S) (content : List ℕ) → Reached start content old x → FeedsBehind start content piece held y result

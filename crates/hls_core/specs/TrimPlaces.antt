@@ -31,6 +31,7 @@ NoneOld s keep =
 abbrev pub IsTrimPlaceAt : State → ℕ → Place → Type 0
 IsTrimPlaceAt s keep cut = (window : ℕ) → IsTrimPlaceOf (upkeep_view s window keep) cut
 
+-- there is no place up to which units may be trimmed, whatever the window
 abbrev pub HasNoTrimPlace : State → ℕ → Type 0
 HasNoTrimPlace s keep = (window : ℕ) (cut : Place) → IsTrimPlaceOf (upkeep_view s window keep) cut → ⊥
 

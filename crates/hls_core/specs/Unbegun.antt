@@ -3,7 +3,7 @@
 use Rattle.std.specs.Prelude.{◌≡◌, ℕ, List, Some, None, slice_get}
 use Rattle.hls_core.specs.declared.rendition_state.RenditionState.{RenditionState}
 
--- a rendition that hasn't begun
+-- some rendition hasn't begun
 pub record HasUnbegunRendition (rendition_states : List RenditionState) : Type 0 where
   pub number : ℕ
   pub rendition_state : RenditionState

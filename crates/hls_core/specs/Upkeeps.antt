@@ -11,6 +11,7 @@ use Rattle.hls_core_laws.specs.Line.{line}
 abbrev pub upkeep_view : State → ℕ → ℕ → UpkeepView
 upkeep_view s window keep = record { live = line s; floors = floors s; places = places s; window = window; keep = keep }
 
+-- the event of an upkeep, or none if nothing is due
 abbrev pub event_of : Upkeep → Option Event
 event_of Idle = None
 event_of (Slides count) = Some (Slide count)

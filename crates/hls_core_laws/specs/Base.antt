@@ -12,7 +12,7 @@ pub record BaseData : Type 0 where
   pub bytes : List ℕ
   pub version : ℕ
 
--- the longest name of a run
+-- the maximum length of the name of a run, in bytes
 abbrev pub run_limit : ℕ
 run_limit = 16
 
@@ -32,14 +32,15 @@ is_run_byte b = (nat_le 48 b && nat_le b 57) || (nat_le 65 b && nat_le b 90) || 
 abbrev pub is_run_name : List ℕ → Bool
 is_run_name text = nat_le 1 (length text) && nat_le (length text) run_limit && list_all is_run_byte text
 
--- its name in a field
+-- a run's name, filled up with zero bytes to 16 bytes
 abbrev pub padded_run : List ℕ → List ℕ
 padded_run text = text ++ replicate (run_limit - length text) 0
 
+-- a run's name as a field of 16 bytes, or none if the text isn't the name of a run
 abbrev pub run_field : List ℕ → Option (List ℕ)
 run_field text = if is_run_name text then Some (padded_run text) else None
 
--- the bytes of units of a rendition that precede
+-- the number of bytes of a rendition's units that precede the recordings
 abbrev pub bytes_before_base : BaseData → ℕ → ℕ
 bytes_before_base base r = slice_index_or base.bytes r 0
 
@@ -47,7 +48,7 @@ bytes_before_base base r = slice_index_or base.bytes r 0
 abbrev pub base_limit : ℕ
 base_limit = 900000000000000
 
--- what can precede
+-- a base that can precede: a run of letters and digits, no mark before the first segment of a channel, and counts up to a limit
 pub record IsBase (base : BaseData) : Type 0 where
   pub run : All (λ b. IsTrue (is_run_byte b)) (run_text base.run)
   -- each mark is that of a segment, and the first segment of a channel has none

@@ -17,6 +17,7 @@ pub record Test : Type 0 where
   pub holds : Bool
   pub met : Outcome
 
+-- a test with this condition and this outcome
 abbrev pub test : Bool → Outcome → Test
 test holds met = record { holds = holds; met = met }
 
@@ -29,6 +30,7 @@ first_met (t ∷ rest) = (if t.holds then t.met else first_met rest)
 abbrev pub lane_at : State → ℕ → Option Lane
 lane_at s r = slice_get (channel s).lanes r
 
+-- the rendition's lane, or an empty one if the channel has no such rendition
 abbrev pub lane_of : Option Lane → Lane
 lane_of l = unwrap_or l no_lane
 
@@ -36,23 +38,28 @@ lane_of l = unwrap_or l no_lane
 abbrev pub has_init : Option Lane → Bool
 has_init l = is_some (lane_of l).init
 
--- the kept unit that starts at the same tick
+-- the bytes of the kept unit that starts at the same tick, if there is one
 abbrev pub kept_duplicate : State → ℕ → Facts → Option (List ℕ)
 kept_duplicate s r f = duplicate_in f.start (drop (lane_of (lane_at s r)).floor (lane_of (lane_at s r)).facts) (held_bytes s r).units
 
+-- there is such a unit, and it has exactly these bytes
 abbrev pub is_bytes : Option (List ℕ) → List ℕ → Bool
 is_bytes None bytes = false
 is_bytes (Some other) bytes = bytes_eq other bytes
 
+-- an event is refused if the channel has no such rendition
 abbrev pub unknown_test : Option Lane → Test
 unknown_test l = test (not (is_some l)) (Refused UnknownRendition)
 
+-- an event is refused if the rendition has no init section
 abbrev pub no_init_test : Option Lane → Test
 no_init_test l = test (not (has_init l)) (Refused NoInit)
 
+-- an event is refused if the log is full
 abbrev pub full_log_test : State → Test
 full_log_test s = test (nat_le log_limit (length s.log)) (Refused LedgerFull)
 
+-- the tests of each kind of event, in their order
 abbrev pub tests : State → Event → List Test
 tests s (Begin r init bytes) =
     unknown_test (lane_at s r)

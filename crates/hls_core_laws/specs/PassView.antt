@@ -11,19 +11,19 @@ use Rattle.hls_core_laws.specs.Moves.{Moves, logged_event}
 use Rattle.hls_core_laws.specs.Follows.{Follows}
 use Rattle.hls_core_laws.specs.Workers.{events_by}
 
--- its number, the state that it saw last, and the events that it submitted
+-- an actor's number, the state that it saw last, and the events that it submitted
 pub record PassView : Type 0 where
   pub number : ℕ
   pub seen : State
   pub mine : List LoggedEvent
 
--- it may have seen a later state, and its own events are unchanged
+-- the actor may have seen a later state, and its own events are unchanged
 pub record MaySeeLater (old new : PassView) : Type 0 where
   pub number : new.number ≡ old.number
   pub follows : Follows old.seen new.seen
   pub mine : new.mine ≡ old.mine
 
--- it sees the state s, which follows what it saw before and contains exactly the events that it submitted
+-- the actor sees the state s, which follows the one that it saw before and has exactly the events that it submitted
 pub record Looks (old : PassView) (s : State) (new : PassView) : Type 0 where
   pub looked : MaySeeLater old new
   pub seen : new.seen ≡ s

@@ -8,6 +8,7 @@ use Rattle.hls_turn.specs.Passes.{PassData}
 use Rattle.hls_turn.specs.Calls.{opening_pass, opening_passes}
 
 module _ {A : Type 0} where
+  -- mapping a range that is longer by one number appends the result for that number
   range-more : (f : ℕ → A) (a n : ℕ) → map f (range_with_len a (suc n)) ≡ map f (range_with_len a n) ++ f (a + n) ∷ []
   range-more f a zero = let is : a ≡ a + 0 = omega arith in ap (λ (x : ℕ). f x ∷ []) is
   range-more f a (suc n) = let is : a + 1 + n ≡ a + suc n = omega arith in

@@ -15,6 +15,7 @@ module _ {A : Type 0} (R : A → A → Type 0) where
   zip_more (suc i) (x ∷ xs) (y ∷ ys) d q low zipped rest related = (zipped.0, zip_more i xs ys d q (omega arith) zipped.1 rest related)
 
 module _ {A : Type 0} where
+  -- setting item i leaves the items after it as they were
   pub drop_set : (i : ℕ) (xs : List A) (q : A) → drop (suc i) (set xs i q) ≡ drop (suc i) xs
   drop_set i [] q = refl
   drop_set zero (x ∷ xs) q = refl
@@ -26,9 +27,11 @@ module _ {A : Type 0} where
   drop-suc zero (x ∷ xs) = refl
   drop-suc (suc i) (x ∷ xs) = drop-suc i xs
 
+  -- two lists that agree from item i on agree from the next one on
   pub drop_one : (i : ℕ) (xs ys : List A) → drop i xs ≡ drop i ys → drop (suc i) xs ≡ drop (suc i) ys
   drop_one i xs ys same = drop-suc i xs ∙ ap (drop 1) same ∙ sym (drop-suc i ys)
 
+  -- a relation of each item to itself relates each list to itself, item by item
   pub zip_self : (R : A → A → Type 0) → ((x : A) → R x x) → (xs : List A) → AllZip R xs xs
   zip_self R self [] = tt
   zip_self R self (x ∷ xs) = (self x, zip_self R self xs)
@@ -41,19 +44,22 @@ module _ {A : Type 0} where
   zip_all R self (suc i) (x ∷ xs) [] zipped rest = absurd zipped
   zip_all R self (suc i) (x ∷ xs) (y ∷ ys) zipped rest = (zipped.0, zip_all R self i xs ys zipped.1 rest)
 
+  -- if R implies S, two lists that R relates item by item are so related by S
   pub zip_map : {B : Type 0} (R S : A → B → Type 0) → ((x : A) (y : B) → R x y → S x y) → (xs : List A) (ys : List B) → AllZip R xs ys → AllZip S xs ys
   zip_map R S weaker [] [] zipped = tt
   zip_map R S weaker [] (y ∷ ys) zipped = absurd zipped
   zip_map R S weaker (x ∷ xs) [] zipped = absurd zipped
   zip_map R S weaker (x ∷ xs) (y ∷ ys) zipped = (weaker x y zipped.0, zip_map R S weaker xs ys zipped.1)
 
-  -- the same for an item that is put in although its call failed
+  -- if R relates the first i and the others are unchanged, and S relates item i to a new one put in its place, S relates all: R implies S, which
+  -- relates each item to itself
   pub zip_put : (R S : A → A → Type 0) → ((x : A) → S x x) → ((x y : A) → R x y → S x y) → (i : ℕ) (old now : List A) (d q : A) → i < length now → AllZip R (take i old) (take i now) → drop i now ≡ drop i old → S (get_or now i d) q
       → AllZip S old (set now i q)
   zip_put R S self weaker i old now d q low zipped rest related = zip_all S self (suc i) old (set now i q)
       (zip_more S i old now d q low (zip_map R S weaker (take i old) (take i now) zipped) rest related)
       (drop_set i now q ∙ drop_one i now old rest)
 
+  -- the results for the first i + 1 items, after item i is set, are those for the first i and the one for the new item
   pub put_map : {B : Type 0} (f : A → B) (i : ℕ) (now : List A) (q : A) → i < length now → map f (take (suc i) (set now i q)) ≡ map f (take i now) ++ f q ∷ []
   put_map f i [] q low = absurd (omega arith)
   put_map f zero (x ∷ xs) q low = refl

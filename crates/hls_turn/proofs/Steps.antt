@@ -14,19 +14,21 @@ use Rattle.hls_core_laws.proofs.Callers.{follows_itself, follows_through, moves_
 use Rattle.hls_turn.specs.declared.view.View.{View}
 use Rattle.hls_turn.specs.Rule.{new_view, after_take, after_put, with_one_more, split_view, log_seen, TakesState, FollowsSeen, Advances, MayPut, EachView, Knows, HasNoPass, IsFree, IsFreeBut, Lies, IsHeld, Runs, Opens, Keeps}
 
--- if one view is set, a fact of every view follows from the fact of the new one and of the others as they were
+-- if P holds of a new view of one port, and of the other views as they were, it holds of each view after the new one is set
 each_set : (P : ℕ → View → Type 0) (views : List View) (port : ℕ) (w : View) → P port w → ((j : ℕ) (u : View) → j ≢ port → get_elem? views j ≡ some u → P j u) → EachView P (set views port w)
 each_set P views port w mine others j u e = ⊎_elim
     (λ (x : (j ≡ port) × (w ≡ u)). subst (λ (y : ℕ × View). P y.0 y.1) (λ i. (sym x.0 i, x.1 i)) mine)
     (λ (x : (j ≢ port) × (get_elem? views j ≡ some u)). others j u x.0 x.1)
     (at_set views port j w u e)
 
+-- an element of a list with one more at the end is an element of the list, or the one at the end
 at_end : (l : List View) (a b : View) (j : ℕ) → get_elem? (l ++ a ∷ []) j ≡ some b → (get_elem? l j ≡ some b) ⊎ ((j ≡ length l) × (a ≡ b))
 at_end [] a b zero e = inr (refl, some-injective a b e)
 at_end [] a b (suc j) e = absurd (some-ne-none b (sym e))
 at_end (x ∷ xs) a b zero e = inl e
 at_end (x ∷ xs) a b (suc j) e = ⊎_elim (λ h. inl h) (λ h. inr (ap suc h.0, h.1)) (at_end xs a b j e)
 
+-- an element's number is below the length of its list
 within : (l : List View) (j : ℕ) (b : View) → get_elem? l j ≡ some b → j < length l
 within [] j b e = absurd (some-ne-none b (sym e))
 within (x ∷ xs) zero b e = omega arith
@@ -38,21 +40,26 @@ none_here x s none some_is = let never : None ≡ Some s = sym none ∙ some_is 
 Some-injective : {S : Type 0} (a b : S) → Some a ≡ Some b → a ≡ b
 Some-injective a b e = cc
 
+-- the first element of a list, if there is one
 abbrev first_of : {S : Type 0} → List S → Option S
 first_of [] = None
 first_of (x ∷ xs) = Some x
 
+-- the list without its first element
 abbrev rest_of : {S : Type 0} → List S → List S
 rest_of [] = []
 rest_of (x ∷ xs) = xs
 
+-- each port has one view
 same_view : (views : List View) (port : ℕ) (u v : View) → get_elem? views port ≡ some u → get_elem? views port ≡ some v → u ≡ v
 same_view views port u v a b = some-injective u v (sym a ∙ b)
 
+-- a list of one view has it at port 0 and none elsewhere
 only-one : (w : View) (j : ℕ) (u : View) → get_elem? (w ∷ []) j ≡ some u → (j ≡ 0) × (u ≡ w)
 only-one w zero u e = (refl, sym (some-injective w u e))
 only-one w (suc j) u e = absurd (some-ne-none u (sym e))
 
+-- a number from the number of views on is the port of no view
 beyond : (views : List View) (port : ℕ) (v : View) (number : ℕ) → get_elem? views port ≡ some v → length views ≤ number → number ≡ port → ⊥
 beyond views port v number at past same = let h : port < length views = within views port v at in absurd (omega arith)
 
@@ -61,20 +68,21 @@ length_set [] port w = refl
 length_set (x ∷ xs) zero w = refl
 length_set (x ∷ xs) (suc port) w = ap suc (length_set xs port w)
 
--- an advanced state follows, and has the same entries of every other number
+-- an advanced state follows the one before
 advances-follow : (t s : State) (number : ℕ) → Advances t number s → Follows t s
 advances-follow t s number = ⊎_elim (λ is. subst (λ (x : State). Follows t x) (sym is) (follows_itself t))
     (λ e. (moves_follow t s number e.0 New e.1 e.2 e.3).1)
 
+-- an advanced state has the same entries of every other number
 advances-apart : (t s : State) (number other : ℕ) → Advances t number s → other ≢ number → events_by other s.log ≡ events_by other t.log
 advances-apart t s number other = ⊎_elim (λ is apart. ap (λ (x : State). events_by other x.log) is)
     (λ e apart. (workers_apart t s number other e.0 e.3).1 apart)
 
--- the views of a run, with the view at this port set to w, which is the port's own and still knows the state
+-- if every view knows the state s, they all still do after the view of one port is set to one that knows it
 knows-set : (s : State) (views : List View) (port : ℕ) (w : View) → EachView (Knows s) views → Knows s port w → EachView (Knows s) (set views port w)
 knows-set s views port w each mine = each_set (Knows s) views port w mine (λ j u _ at. each j u at)
 
--- `pass_count` is unchanged if the view at 0, if set, keeps its count
+-- pass 0 still counts all passes after a view is set that has the same count as the one before it
 pass_count-set : (views : List View) (port : ℕ) (v w : View) → get_elem? views port ≡ some v → w.pass_count ≡ v.pass_count → ((u : View) → get_elem? views 0 ≡ some u → u.pass_count ≡ length views)
     → (u : View) → get_elem? (set views port w) 0 ≡ some u → u.pass_count ≡ length (set views port w)
 pass_count-set views port v w at same pass_count u e = ⊎_elim
@@ -82,14 +90,17 @@ pass_count-set views port v w at same pass_count u e = ⊎_elim
     (λ (x : (0 ≢ port) × (get_elem? views 0 ≡ some u)). pass_count u x.1 ∙ sym (length_set views port w))
     (at_set views port 0 w u e)
 
+-- before the opening the only view is the new one, at port 0
 alone-at : (views : List View) (port : ℕ) (v : View) → views ≡ new_view ∷ [] → get_elem? views port ≡ some v → (port ≡ 0) × (v ≡ new_view)
 alone-at views zero v is at = (refl, sym (some-injective new_view v (subst (λ (l : List View). get_elem? l 0 ≡ some v) is at)))
 alone-at views (suc port) v is at = absurd (some-ne-none v (sym (subst (λ (l : List View). get_elem? l (suc port) ≡ some v) is at)))
 
+-- after a pass is split off, pass 0 counts one more
 pass_count-set-more : (views : List View) (port : ℕ) (v l : View) → get_elem? views 0 ≡ some v → (u : View) → get_elem? (set views 0 (with_one_more v)) 0 ≡ some u → u.pass_count ≡ v.pass_count + 1
 pass_count-set-more views port v l at u e = ap (λ (y : View). y.pass_count) (sym (some-injective (with_one_more v) u (sym (set_here views 0 (with_one_more v) (within views 0 v at)) ∙ e)))
 
 module _ {A : Type 0} where
+  -- while the state is held, a pass that holds a state holds the current one, the queue is empty, and no other pass holds one
   held_at : (s t : State) (items : List (Arc State A)) (views : List View) (port : ℕ) (v : View) → get_elem? views port ≡ some v → v.holds ≡ Some t → (held : IsHeld s items views) → Dec (port ≡ held.holder)
       → (items ≡ []) × (t ≡ s) × EachView (IsFreeBut port) views
   held_at s t items views port v at holds held (yes is) =
@@ -129,7 +140,7 @@ module _ {A : Type 0} where
         unassigned = λ number _ j u e. record { entries = ap (λ (y : View). events_by number (log_seen y.seen)) (only j u e).1 };
       }
 
-  -- a put by the pass that holds the state
+  -- when the pass that holds the state puts it back, unchanged or advanced, the turn still runs
   goes_on : (items : List (Arc State A)) (views : List View) (port : ℕ) (v : View) (t : State) (x : Arc State A) → Runs items views → get_elem? views port ≡ some v → v.holds ≡ Some t → Advances t v.number x.value
       → Runs (items ++ x ∷ []) (set views port (after_put v x.value))
   goes_on items views port v t x runs at holds advances =
@@ -162,6 +173,7 @@ module _ {A : Type 0} where
             (λ j u differs e. record { entries = (runs.unassigned number past j u e).entries ∙ sym (apart number (λ same. beyond views port v number at past (same ∙ mine.number))) });
       }
 
+  -- a put that is allowed keeps the turn's rule, and leaves the pass with the view after a put
   pub puts : (n port : ℕ) (v : View) (x : Arc State A) → MayPut v x.value → Pushes (Keeps {A = A}) n port v x (λ w. w ≡ after_put v x.value)
   puts n port v x may items views _ keeps at = (
     after_put v x.value,
@@ -190,6 +202,7 @@ module _ {A : Type 0} where
       may)
       keeps
 
+  -- when the state is taken out, the turn still runs, and the taken state follows what the pass saw and has exactly its events
   take_runs : (items : List (Arc State A)) (views : List View) (port : ℕ) (v : View) (x : Arc State A) → Runs (x ∷ items) views → get_elem? views port ≡ some v
       → Runs items (set views port (after_take v x.value)) × TakesState v x.value (after_take v x.value)
   take_runs items views port v x runs at =
@@ -223,20 +236,23 @@ module _ {A : Type 0} where
         },
       )
 
+  -- a take keeps the turn's rule, and gives the pass a state that follows what it saw and has exactly its events
   pub takes : (port : ℕ) (v : View) → Pops (Keeps {A = A}) port v (λ x w. TakesState v x.value w)
   takes port v x items views keeps at = ⊎_elim
       (λ (opening : Opens (x ∷ items) views). let never : x ∷ items ≡ [] = opening.empty in absurd (cc))
       (λ (runs : Runs (x ∷ items) views). let taken = take_runs items views port v x runs at in (after_take v x.value, inr taken.0, taken.1))
       keeps
 
+  -- an empty queue and pass 0 alone satisfy the turn's rule
   pub begins : Keeps {A = A} [] (new_view ∷ [])
   begins = inl (record { empty = refl; alone = refl })
 
--- pass 0 after `n` passes were made, all from the opening state
+-- pass 0 after `pass_count` passes were made, itself included, all of the opening state s
 abbrev pub made_to : ℕ → State → View
 made_to pass_count s = record { number = 0; pass_count = pass_count; seen = Some s; mine = events_by 0 s.log; holds = None }
 
 module _ {A : Type 0} where
+  -- splitting a free pass off a free one leaves the state in the queue, or held by the pass that holds it
   fork_place : (s : State) (items : List (Arc State A)) (views : List View) (port : ℕ) (v l r : View) → get_elem? views port ≡ some v → l.holds ≡ v.holds → v.holds ≡ None → r.holds ≡ None
       → Lies s items views ⊎ IsHeld s items views → Lies s items (set views port l ++ r ∷ []) ⊎ IsHeld s items (set views port l ++ r ∷ [])
   fork_place s items views port v l r at same none free place = ⊎_elim
@@ -264,6 +280,7 @@ module _ {A : Type 0} where
       }))
       place
 
+  -- when a pass is split off pass 0, which holds no state, the turn still runs
   fork_runs : (items : List (Arc State A)) (views : List View) (v : View) → Runs items views → get_elem? views 0 ≡ some v → v.holds ≡ None → Runs items (set views 0 (with_one_more v) ++ split_view v ∷ [])
   fork_runs items views v runs at none =
       let l : View = with_one_more v in let r : View = split_view v in let s : State = runs.state in
@@ -289,6 +306,7 @@ module _ {A : Type 0} where
             (at_end (set views 0 l) r u j e);
       }
 
+  -- splitting a pass off pass 0, which has seen the opening state and holds none, keeps the turn's rule
   pub forks : (s : State) (pass_count port : ℕ) (v : View) → port ≡ 0 → v ≡ made_to pass_count s → Forks (Keeps {A = A}) port v (with_one_more v) (split_view v)
   forks s pass_count port v zeroth is items views keeps at = ⊎_elim
       (λ (opening : Opens items views). absurd (none_here new_view.seen s refl (ap (λ (y : View). y.seen) (sym (alone-at views port v opening.alone at).1 ∙ is))))

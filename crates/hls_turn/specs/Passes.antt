@@ -8,6 +8,7 @@ use Rattle.hls_core_laws.specs.PassView.{PassView}
 use Rattle.hls_core_laws.specs.Workers.{events_by}
 use Rattle.hls_turn.specs.declared.view.View.{View}
 
+-- a pass by the turn that it belongs to and what it knows
 pub record PassData : Type 0 where
   pub turn : TableId
   pub known : PassView
@@ -16,9 +17,11 @@ pub record PassData : Type 0 where
 abbrev pub no_state : State
 no_state = record { config = record { target = 0; preferred = 0; renditions = []; epoch = None; base = no_base }; log = []; bytes = [] }
 
+-- the state that a pass saw last, or the default if it has seen none
 abbrev pub seen_by : View → State
 seen_by v = unwrap_or v.seen no_state
 
+-- what a pass knows by its view: its number, the state that it saw last, and the events that it submitted
 abbrev pub known_by : View → PassView
 known_by v = record { number = v.number; seen = seen_by v; mine = v.mine }
 

@@ -18,23 +18,28 @@ use Rattle.hls_turn.specs.declared.view.View.{View}
 abbrev pub new_view : View
 new_view = record { number = 0; pass_count = 1; seen = None; mine = []; holds = None }
 
+-- the view of a pass after it takes the state s out: it has seen s and holds it
 abbrev pub after_take : View → State → View
 after_take v s = record { number = v.number; pass_count = v.pass_count; seen = Some s; mine = v.mine; holds = Some s }
 
+-- the view of a pass after it puts the state s in: it has seen s, holds none, and its events are the entries of its number
 abbrev pub after_put : View → State → View
 after_put v s = record { number = v.number; pass_count = v.pass_count; seen = Some s; mine = events_by v.number s.log; holds = None }
 
+-- the log of the state that a pass saw, empty if it has seen none
 abbrev pub log_seen : Option State → List Entry
 log_seen None = []
 log_seen (Some s) = s.log
 
--- pass 0 after a pass was split off it, and that pass: it has seen the same state, and its number is the next one
+-- pass 0 after one more pass is split off it
 abbrev pub with_one_more : View → View
 with_one_more v = record { number = v.number; pass_count = v.pass_count + 1; seen = v.seen; mine = v.mine; holds = v.holds }
 
+-- the pass that is split off pass 0: it has seen the same state, and its number is the next one
 abbrev pub split_view : View → View
 split_view v = record { number = v.pass_count; pass_count = 0; seen = v.seen; mine = events_by v.pass_count (log_seen v.seen); holds = None }
 
+-- the state s follows the one that a pass saw, if it has seen one
 abbrev pub FollowsSeen : Option State → State → Type 0
 FollowsSeen None s = Unit {0}
 FollowsSeen (Some t) s = Follows t s
@@ -53,6 +58,7 @@ Advances t number s = (s ≡ t) ⊎ ((event : Event) × IsState t × IsFitting t
 abbrev pub MayPut : View → State → Type 0
 MayPut v s = (v ≡ new_view) ⊎ ((t : State) × (v.holds ≡ Some t) × Advances t v.number s)
 
+-- P holds of the view of each pass, with its port
 abbrev pub EachView : (ℕ → View → Type 0) → List View → Type 0
 EachView P views = (port : ℕ) (v : View) → get_elem? views port ≡ some v → P port v
 
@@ -64,13 +70,15 @@ pub record Knows (s : State) (port : ℕ) (v : View) : Type 0 where
   pub follows : Follows last s
   pub mine : events_by v.number s.log ≡ v.mine
 
--- of a number that no pass has yet, every pass has seen all entries
+-- a pass has seen all entries of a number that no pass has yet
 pub record HasNoPass (s : State) (number : ℕ) (port : ℕ) (v : View) : Type 0 where
   pub entries : events_by number (log_seen v.seen) ≡ events_by number s.log
 
+-- the pass holds no state
 pub record IsFree (port : ℕ) (v : View) : Type 0 where
   pub holds : v.holds ≡ None
 
+-- the pass holds no state, unless it is the holder
 pub record IsFreeBut (holder : ℕ) (port : ℕ) (v : View) : Type 0 where
   pub holds : port ≢ holder → v.holds ≡ None
 
@@ -104,5 +112,6 @@ module _ {A : Type 0} where
     pub empty : items ≡ []
     pub alone : views ≡ new_view ∷ []
 
+  -- the turn's rule: it isn't opened yet, or it runs
   abbrev pub Keeps : List (Arc State A) → List View → Type 0
   Keeps items views = Opens items views ⊎ Runs items views

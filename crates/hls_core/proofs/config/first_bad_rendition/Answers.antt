@@ -1,3 +1,4 @@
+-- The renditions before n are valid, so the first one that isn't is found at n; after sixteen valid ones, a seventeenth is.
 use Rattle.std.proofs.Common.{◌∙◌, sym, inl, inr, arith}
 use Rattle.std.proofs.lemmas.Bool.{eqb-false}
 use Rattle.hls_core.proofs.Cited.{at_read}

@@ -1,3 +1,4 @@
+-- Before each round, all renditions so far are valid at their numbers, and there are at most as many as a channel may have.
 use Rattle.std.proofs.Common.{◌≡◌, ℕ, ◌<◌, ◌≤◌, Some}
 use Rattle.std.specs.Prelude.{slice_get}
 use Rattle.hls_core_laws.specs.declared.rendition.Rendition.{Rendition}

@@ -1,3 +1,4 @@
+-- If no rendition was found to have the name, the list has none with it.
 use Rattle.std.proofs.Common.{arith}
 use Rattle.std.proofs.lemmas.Option.{slice_get_within}
 use Rattle.hls_core.proofs.Names.{unlisted}

@@ -1,3 +1,4 @@
+-- Before each round, none of the renditions so far has the name.
 use Rattle.std.proofs.Common.{◌≡◌, ℕ, ◌<◌, false, Some}
 use Rattle.std.specs.Prelude.{slice_get}
 use Rattle.std.specs.Str.{bytes_eq}

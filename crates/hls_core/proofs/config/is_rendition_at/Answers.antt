@@ -1,3 +1,4 @@
+-- A rendition is valid at its number if it is valid, may have its tolerance there, and no earlier one has its name.
 use Rattle.hls_core.proofs.Names.{named_apart}
 use Rattle.hls_core.proofs.config.is_rendition_at.Goals as goal
 

@@ -1,3 +1,4 @@
+-- If two logs begin with the same n entries and their next entries are the same, they begin with the same n + 1 entries.
 use Rattle.hls_core.proofs.Compared.{item_there, begins_more}
 use Rattle.hls_core.proofs.equality.is_prefix.Goals as goal
 

@@ -1,3 +1,4 @@
+-- Before each round, both logs begin with the same entries so far.
 use Rattle.std.proofs.Common.{◌≡◌, take}
 use Rattle.hls_core.proofs.equality.is_prefix.Given as goal
 

@@ -1,3 +1,4 @@
+-- Before each round, both lists begin with the same renditions so far.
 use Rattle.std.proofs.Common.{◌≡◌, take}
 use Rattle.hls_core.proofs.equality.same_renditions.Given as goal
 

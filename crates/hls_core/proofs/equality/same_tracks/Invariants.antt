@@ -1,3 +1,4 @@
+-- Before each round, both lists begin with the same tracks so far.
 use Rattle.std.proofs.Common.{◌≡◌, take}
 use Rattle.hls_core.proofs.equality.same_tracks.Given as goal
 

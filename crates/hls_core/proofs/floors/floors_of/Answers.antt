@@ -1,3 +1,4 @@
+-- Each round writes the floor of one more rendition, and the array has room for as many renditions as a channel may have.
 use Rattle.std.proofs.Common.{◌≡◌, ◌∷◌, ◌++◌, [], ℕ, List, length, take, arith, ap, sym, ◌∙◌}
 use Rattle.std.proofs.lemmas.List.{length-map, length-set, take_more, take_more_set, take_all}
 use Rattle.hls_core_laws.specs.State.{channel}

@@ -1,3 +1,4 @@
+-- Before each round, the floors of the renditions so far are right; there is room for as many renditions as a channel may have.
 use Rattle.std.proofs.Common.{◌≡◌, length, take}
 use Rattle.hls_core_laws.specs.Places.{floors}
 use Rattle.hls_core.proofs.floors.floors_of.Given as goal

@@ -1,3 +1,4 @@
+-- A channel has as many lanes as its configuration has renditions.
 use Rattle.std.proofs.Common.{◌≡◌, length, arith}
 use Rattle.hls_core.proofs.Cited.{lanes_count}
 use Rattle.hls_core.proofs.floors.rendition_count.Goals as goal

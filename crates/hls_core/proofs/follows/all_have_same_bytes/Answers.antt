@@ -1,3 +1,4 @@
+-- A rendition that differs shows that not all are the same; after the last one, each was compared.
 use Rattle.std.proofs.Common.{refl, sym, ◌∙◌, arith}
 use Rattle.std.proofs.lemmas.Option.{slice_get_within}
 use Rattle.hls_core.proofs.Compared.{same_at, same_more}

@@ -1,3 +1,4 @@
+-- Before each round, what both states keep of the renditions so far has the same bytes in both.
 use Rattle.std.proofs.Common.{◌≡◌, ℕ, ◌<◌, Some}
 use Rattle.std.specs.Prelude.{slice_get}
 use Rattle.hls_core_laws.specs.Channel.{lane}

@@ -1,3 +1,4 @@
+-- The three tests, of configuration, log and kept bytes, decide whether b continues a, and between states that is whether b follows a.
 use Rattle.std.proofs.Common.{◌≡◌, sym, ◌∙◌, length, take}
 use Rattle.hls_core.proofs.Cited.{follows_of, continues_of}
 use Rattle.hls_core.proofs.Compared.{continues_when}

@@ -1,3 +1,4 @@
+-- Before each round, the units so far that both recordings keep are the same in both.
 use Rattle.std.proofs.Common.{◌≡◌, ℕ, ◌-◌, ◌<◌, ◌≤◌, List, Some}
 use Rattle.std.specs.Prelude.{slice_get}
 use Rattle.hls_core.proofs.follows.same_units.Given as goal

@@ -1,3 +1,4 @@
+-- Each round takes the first part of what is left and has it accepted; a part that isn't accepted is the result.
 use Rattle.std.proofs.Common.{◌≡◌, ◌∙◌, ap, sym, Err, rules}
 use Rattle.hls_boxes.specs.Parts.{StreamCut, fault_of_rest}
 use Rattle.hls_boxes.specs.Reader.{TakesFirstPart}

@@ -1,3 +1,5 @@
+-- Some parts of what the reader had are taken and accepted, what it still has shows the same fault, if any, and each round leaves
+-- one part fewer.
 use Rattle.std.proofs.Common.{◌≡◌, length}
 use Rattle.hls_boxes.specs.Parts.{stream_cut, text_fault}
 use Rattle.hls_core.specs.DrainSteps.{TakenFrom}

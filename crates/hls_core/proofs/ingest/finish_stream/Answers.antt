@@ -1,3 +1,4 @@
+-- A stream that ends after a whole part ends well; one that ends inside a part is truncated.
 use Rattle.hls_core.proofs.FeedLaws.{ends_inside, ends_whole}
 use Rattle.hls_core.proofs.ingest.finish_stream.Goals as goal
 

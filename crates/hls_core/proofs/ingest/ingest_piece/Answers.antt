@@ -1,3 +1,4 @@
+-- By whether the reader finds a fault in the piece: if not, the result is that of draining; else a part before the fault, or the fault.
 use Rattle.std.proofs.Common.{◌≡◌, ◌∙◌, List, ℕ, Err, ap, sym, subst, rules}
 use Rattle.hls_boxes.specs.Parts.{text_fault}
 use Rattle.hls_core.specs.DrainSteps.{Drains}

@@ -1,3 +1,4 @@
+-- If each rendition has begun, the cursor is advanced over all of them; otherwise there is no further common place.
 use Rattle.std.proofs.Common.{◌∙◌, ap, length, map, sym, subst, arith, List}
 use Rattle.std.proofs.lemmas.List.{length-map}
 use Rattle.hls_places_laws.specs.declared.place.Place.{Place}

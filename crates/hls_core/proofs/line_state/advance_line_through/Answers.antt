@@ -1,3 +1,4 @@
+-- A line that has advanced through the places so far, and then through the next one, has advanced through all of these; at the end, through all.
 use Rattle.std.proofs.Common.{◌∙◌, arith}
 use Rattle.hls_core.proofs.Cited.{at_read}
 use Rattle.hls_core.proofs.Moved.{told_next, told_end}

@@ -1,3 +1,4 @@
+-- A rendition with a recording is the next one that the search sees; one without a recording is an unbegun rendition.
 use Rattle.std.proofs.Common.{◌≡◌, ◌∙◌, List, [], ◌∷◌, ◌++◌, map, take, get_or, sym, ap}
 use Rattle.hls_places_laws.specs.Sources.{Source}
 use Rattle.hls_core_laws.specs.declared.rendition.Rendition.{Rendition}

@@ -1,3 +1,4 @@
+-- Each round appends the source of the next rendition; after the last round, the list has those of all renditions.
 use Rattle.std.proofs.Common.{◌∙◌, List, [], ◌∷◌, ◌++◌, map, sym, ap, arith}
 use Rattle.std.proofs.lemmas.List.{length-map, take_all}
 use Rattle.hls_places_laws.specs.Sources.{Source}

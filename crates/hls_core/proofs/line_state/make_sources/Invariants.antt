@@ -1,3 +1,4 @@
+-- Before each round, the sources so far are those of the renditions so far.
 use Rattle.std.proofs.Common.{◌≡◌, map, take}
 use Rattle.hls_core.specs.RenditionStates.{sources_by}
 use Rattle.hls_core.proofs.line_state.make_sources.Given as goal

@@ -1,3 +1,4 @@
+-- Before each round, the list is the old one followed by the new places so far.
 use Rattle.std.proofs.Common.{◌≡◌, ◌++◌}
 use Rattle.hls_core.proofs.line_state.push_places.Given as goal
 

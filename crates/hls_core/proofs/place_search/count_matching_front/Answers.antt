@@ -1,3 +1,4 @@
+-- The place in the middle decides: if it satisfies the predicate, so does each before it; if not, none after it does.
 use Rattle.std.proofs.Common.{ℕ, true, false, arith, sym, ◌∙◌, ◌≡◌}
 use Rattle.hls_core.specs.Predicates.{satisfies}
 use Rattle.hls_core.proofs.KeptPlaces.{met-more, unmet-more}

@@ -1,3 +1,4 @@
+-- Each place before `low` satisfies the predicate, none from `high` on does, and those between them are still to be searched.
 use Rattle.std.proofs.Common.{◌-◌, ◌≤◌, length}
 use Rattle.hls_core_laws.specs.Places.{places}
 use Rattle.hls_core.specs.Predicates.{SatisfyBelow, NoneSatisfiesFrom}

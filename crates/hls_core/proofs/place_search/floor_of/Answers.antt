@@ -1,3 +1,4 @@
+-- A number past the last rendition has floor 0.
 use Rattle.hls_core.proofs.KeptPlaces.{floor-none}
 use Rattle.hls_core.proofs.place_search.floor_of.Goals as goal
 

@@ -1,3 +1,4 @@
+-- A place has one spot in each rendition of the channel.
 use Rattle.std.proofs.Common.{sym, ap, ◌∙◌}
 use Rattle.std.specs.Option.{option_copied}
 use Rattle.hls_core.proofs.Cited.{spots-count}

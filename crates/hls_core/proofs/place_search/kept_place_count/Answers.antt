@@ -1,3 +1,4 @@
+-- The kept places are all places but the first ones that have a trimmed unit.
 use Rattle.std.proofs.Common.{arith}
 use Rattle.hls_core.proofs.KeptPlaces.{kept-counted}
 use Rattle.hls_core.proofs.place_search.kept_place_count.Goals as goal

@@ -1,3 +1,4 @@
+-- If the last place at or before the time is kept, it is the result. If it has a trimmed unit, so do all earlier ones, and none is kept.
 use Rattle.std.proofs.Common.{◌≡◌, true, false, arith, sym, ◌∙◌}
 use Rattle.hls_places_laws.specs.Programmes.{is_kept}
 use Rattle.hls_core_laws.specs.Places.{floors}

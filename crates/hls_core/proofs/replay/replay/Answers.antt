@@ -1,3 +1,4 @@
+-- Each event fits the state that the earlier ones led to, and applying it continues the replay; after the last one, the replay is complete.
 use Rattle.hls_core.proofs.Runs.{event_fits, rest_fits, rest_told, all_told}
 use Rattle.hls_core.proofs.replay.replay.Goals as goal
 

@@ -1,3 +1,4 @@
+-- The remaining events fit the state so far, and lead from it to the state to which all events lead from the opening state.
 use Rattle.std.proofs.Common.{◌≡◌, drop}
 use Rattle.hls_core_laws.specs.Runs.{first_state, replayed_state, AreFitting}
 use Rattle.hls_core.proofs.replay.replay.Given as goal

@@ -1,3 +1,4 @@
+-- Before each round, there is a state that hasn't begun for each rendition so far.
 use Rattle.std.proofs.Common.{◌≡◌, map, take}
 use Rattle.hls_core.specs.RenditionStates.{fresh_rendition_state}
 use Rattle.hls_core.proofs.snapshot.make_renditions.Given as goal

@@ -1,3 +1,4 @@
+-- The list of states is the old one with the new state at the given number.
 use Rattle.std.proofs.Common.{◌∙◌, refl}
 use Rattle.std.proofs.lemmas.List.{map-set}
 use Rattle.hls_core.proofs.snapshot.replace_rendition.Goals as goal

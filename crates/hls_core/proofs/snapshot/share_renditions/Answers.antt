@@ -1,3 +1,4 @@
+-- The copied list has the same rendition states.
 use Rattle.hls_core.proofs.Moved.{when_ok, same_values}
 use Rattle.hls_core.proofs.snapshot.share_renditions.Goals as goal
 

@@ -1,3 +1,4 @@
+-- A unit that passes its tests is appended to the recording, whose room is the last test; then only an allocation failure can refuse it.
 use Rattle.std.proofs.Common.{rules, ◌≡◌, Err, refl, arith}
 use Rattle.hls_core_laws.specs.declared.refusal.Refusal.TheVariants.{Memory}
 use Rattle.hls_core.proofs.Goes.{accept_large, accept_small, accepts_units, accepts_within, accepts_goes, goes_as, steps_goes}

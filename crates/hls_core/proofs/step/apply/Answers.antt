@@ -1,3 +1,4 @@
+-- After a repeat or a refusal the snapshot is unchanged, as the event's step says.
 use Rattle.hls_core.proofs.step.apply.Goals as goal
 
 pub returns-in-Ok-Repeat : goal.returns-in-Ok-Repeat

@@ -1,3 +1,4 @@
+-- A Begin that passes its tests leads to an empty recording; after the tests only an allocation failure can refuse it.
 use Rattle.std.proofs.Common.{rules, ◌≡◌, Err, refl}
 use Rattle.hls_core_laws.specs.declared.refusal.Refusal.TheVariants.{Memory}
 use Rattle.hls_core.proofs.Goes.{new_begins, begin_new, begin_within, begin_goes, goes_as, take_as, steps_goes}

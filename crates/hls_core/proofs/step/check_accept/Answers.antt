@@ -1,3 +1,5 @@
+-- A unit that passed the earlier tests and fails one of them is refused, with that test's reason, or is a duplicate.
+-- One that passes all may be accepted.
 use Rattle.std.proofs.Common.{◌≡◌, ◌∙◌, ◌<◌, ◌≤◌, None, sym, ap, arith}
 use Rattle.std.specs.Option.{option_copied}
 use Rattle.hls_media_laws.specs.FactLists.{last_end}

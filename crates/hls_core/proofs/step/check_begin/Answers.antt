@@ -1,3 +1,5 @@
+-- A Begin for an unknown rendition, with another init section than the recorded one, or in a full log is refused;
+-- one with the recorded init section is a duplicate; any other is new.
 use Rattle.std.proofs.Common.{ℕ, List, ◌∙◌, sym, ap}
 use Rattle.std.specs.Str.{bytes_eq}
 use Rattle.hls_core.proofs.Goes.{room_of, begin_unknown, begin_again, begin_changed, begin_full}

@@ -1,3 +1,5 @@
+-- A Finish is refused for an unknown or unbegun rendition and in a full log, and repeats if the rendition is finished.
+-- Otherwise it leads to the same recording, and only an allocation failure can refuse it.
 use Rattle.std.proofs.Common.{rules, ◌≡◌, ◌∙◌, Err, refl, sym}
 use Rattle.hls_core_laws.specs.declared.refusal.Refusal.TheVariants.{Memory}
 use Rattle.hls_core.proofs.Goes.{room_of, within, finish_unknown, finish_unbegun, finish_again, finish_full, finish_new, finish_goes, goes_as, steps_goes}

@@ -1,3 +1,4 @@
+-- A slide that the line allows, in a log with room, leads to a new state with that entry.
 use Rattle.std.proofs.Common.{◌∙◌, refl, sym, ap}
 use Rattle.hls_places_laws.specs.Line.Live.{Live, may_slide}
 use Rattle.hls_core_laws.specs.declared.event.Event.TheVariants.{Slide}

@@ -1,3 +1,5 @@
+-- A Trim is refused for an unknown rendition, past the trim limit and in a full log, and repeats if its floor isn't above the present one.
+-- Otherwise it leads to the trimmed recording, and only an allocation failure can refuse it.
 use Rattle.std.proofs.Common.{rules, ◌≡◌, ◌∙◌, Err, arith, refl, sym}
 use Rattle.hls_core_laws.specs.declared.refusal.Refusal.TheVariants.{Memory}
 use Rattle.hls_core.proofs.Goes.{room_of, within, trim_unknown, trim_again, trim_far, trim_full, trim_new, trim_begun, trim_within, trim_goes, trims_as, steps_trims}

@@ -1,3 +1,4 @@
+-- Before each round, no rendition so far has units that are kept before the place.
 use Rattle.hls_core.specs.TrimPlaces.{ReachedBefore}
 use Rattle.hls_core.proofs.upkeep.find_trim.Given as goal
 

@@ -1,3 +1,4 @@
+-- Upkeep of a line that continues slides it by as many segments as it can; if none, it trims the units before the trim place, if there is one.
 use Rattle.std.proofs.Common.{◌≡◌, ℕ, false, arith, refl, sym, ap, subst, ◌∙◌}
 use Rattle.hls_places_laws.specs.Line.Live.{Live, has_ended}
 use Rattle.hls_places_laws.specs.Line.Upkeep.{IsMostSlide, Slides}

@@ -1,3 +1,4 @@
+-- By the queue's rule, any pass may take the state out.
 use Rattle.hls_turn.proofs.Steps.{takes}
 use Rattle.hls_turn.proofs.state_queue.take_state.Goals as goal
 

@@ -1,3 +1,4 @@
+-- Before each try to take the state, the pass has the same view of the queue as at the start.
 use Rattle.std.proofs.Common.{◌≡◌}
 use Rattle.crossbeam_queue.specs.Passes.{view, IsSamePass, IsPassOf}
 use Rattle.hls_turn.proofs.state_queue.take_state.Given as goal

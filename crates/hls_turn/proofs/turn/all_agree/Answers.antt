@@ -1,3 +1,4 @@
+-- The last state is settled for the first i passes, and a passed test settles it for one more (`zip_next`).
 use Rattle.std.proofs.Common.{rules, ◌≡◌, ◌+◌, ◌<◌, ℕ, suc, List, length, take, map, get_or, ap, sym, subst, arith}
 use Rattle.std.proofs.Common.{Global, ◌∙◌}
 use Rattle.std.specs.List.{AllZip}

@@ -1,3 +1,4 @@
+-- Before each round, the last state follows each of the states so far, and has no further entry of the pass that saw it.
 use Rattle.std.proofs.Common.{◌≤◌, length, map, take}
 use Rattle.std.specs.List.{AllZip}
 use Rattle.hls_turn.specs.Calls.{SettledAt}

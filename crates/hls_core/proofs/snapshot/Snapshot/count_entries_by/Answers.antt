@@ -1,3 +1,4 @@
+-- An entry by the given pass adds one to the count, any other adds nothing; after the last entry, all entries by that pass are counted.
 use Rattle.std.proofs.Common.{arith}
 use Rattle.hls_core.proofs.Compared.{item_there, counted_own, counted_other}
 use Rattle.hls_core.proofs.snapshot.Snapshot.count_entries_by.Goals as goal

@@ -1,3 +1,4 @@
+-- Before each round, the count is that of the entries so far by the given pass, so it is at most their number.
 use Rattle.std.proofs.Common.{◌≡◌, ◌≤◌, length, take}
 use Rattle.hls_core_laws.specs.Workers.{events_by}
 use Rattle.hls_core.proofs.snapshot.Snapshot.count_entries_by.Given as goal

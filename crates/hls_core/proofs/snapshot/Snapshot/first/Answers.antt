@@ -1,3 +1,4 @@
+-- The snapshot with an empty log and no rendition begun is consistent, and it is the first state of its configuration.
 use Rattle.std.proofs.Common.{◌∙◌, ap, refl, map}
 use Rattle.hls_core.specs.RenditionStates.{fresh_rendition_state}
 use Rattle.hls_core.proofs.Taken.{seen_first, kept_first}

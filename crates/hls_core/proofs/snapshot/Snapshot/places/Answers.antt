@@ -1,3 +1,4 @@
+-- The places of a snapshot are those of renditions whose units are in order of time.
 use Rattle.std.proofs.Common.{subst}
 use Rattle.hls_places_laws.specs.Sources.{AreSources}
 use Rattle.hls_core_laws.specs.State.{State}

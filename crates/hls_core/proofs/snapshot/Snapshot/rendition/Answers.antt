@@ -1,3 +1,4 @@
+-- The rendition state that is stored at a number is the one that the snapshot's state has there.
 use Rattle.std.proofs.Common.{◌<◌, length, arith}
 use Rattle.hls_core.proofs.Cited.{at_read, at_map}
 use Rattle.hls_core.proofs.Taken.{side_at}

@@ -1,3 +1,4 @@
+-- The log has room for one more entry: it has as many as that of the state, which has room.
 use Rattle.std.proofs.Common.{arith, ap, length}
 use Rattle.hls_core_laws.specs.State.{State}
 use Rattle.hls_core.proofs.snapshot.Snapshot.with_entry.Goals as goal

@@ -1,3 +1,4 @@
+-- The new parts are the old ones with an entry, a replaced rendition state and the places advanced, and so they are sound.
 use Rattle.std.proofs.Common.{◌∙◌, refl, map, arith}
 use Rattle.std.proofs.lemmas.List.{length-map}
 use Rattle.hls_core.proofs.Taken.{seen_put, kept_put, ahead, side_within}

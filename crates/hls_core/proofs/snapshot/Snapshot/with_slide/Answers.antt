@@ -1,3 +1,4 @@
+-- After a slide the renditions are unchanged and the line is the one that slid, so the snapshot stays consistent with its log.
 use Rattle.hls_core.proofs.Taken.{kept_slide, seen_slide}
 use Rattle.hls_core.proofs.snapshot.Snapshot.with_slide.Goals as goal
 

@@ -1,3 +1,4 @@
+-- After a trim one rendition is replaced and the line is unchanged, so the snapshot stays consistent with its log.
 use Rattle.hls_core.proofs.Moved.{same_placed}
 use Rattle.hls_core.proofs.Taken.{kept_trim, seen_put, side_within}
 use Rattle.hls_core.proofs.snapshot.Snapshot.with_trim.Goals as goal

@@ -1,3 +1,4 @@
+-- A pass that looks takes the state out and puts the same one back, so it may put it, stays a pass of the turn, and has seen that state.
 use Rattle.std.proofs.Common.{rules, ◌∙◌}
 use Rattle.crossbeam_queue.specs.Passes.{view}
 use Rattle.hls_turn.proofs.Told.{may_put_back, back_is_pass}

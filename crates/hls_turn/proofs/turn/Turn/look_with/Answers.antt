@@ -1,3 +1,4 @@
+-- Each look takes one more pass from before to after it; whether the loop ends or a call fails, all passes have then looked or are unchanged.
 use Rattle.std.proofs.Common.{rules, ◌≡◌, ◌+◌, ◌<◌, ◌∙◌, ℕ, suc, List, [], ◌∷◌, ◌++◌, length, take, drop, set, get_or, map, ap, sym, subst, arith}
 use Rattle.std.specs.List.{AllZip}
 use Rattle.std.proofs.lemmas.List.{map-append}

@@ -1,3 +1,4 @@
+-- The first i passes have looked, the others are unchanged, and the states so far are what the first i passes saw.
 use Rattle.std.proofs.Common.{◌≡◌, ◌≤◌, All, length, map, take, drop}
 use Rattle.std.specs.List.{AllZip}
 use Rattle.hls_turn.specs.Calls.{LooksAt}

@@ -1,3 +1,4 @@
+-- The passes look repeatedly, which adds up (`all_looked`), until the last state is settled for all others; then they meet at it (`all_meet`).
 use Rattle.std.proofs.Common.{◌∙◌, ◌<◌, ℕ, List, [], ◌∷◌, length, map, take, Global, ap, sym, subst}
 use Rattle.std.specs.List.{AllZip}
 use Rattle.std.specs.declared.sync.Arc.{Arc}

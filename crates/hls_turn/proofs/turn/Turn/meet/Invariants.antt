@@ -1,3 +1,4 @@
+-- Before each round, all passes are of this turn, there is at least one, and each has only looked since the start.
 use Rattle.std.proofs.Common.{◌≡◌, ◌<◌, All, length}
 use Rattle.std.specs.List.{AllZip}
 use Rattle.hls_turn.specs.Calls.{HasLooked}

@@ -1,3 +1,4 @@
+-- Each split keeps the rule of the turn (`forks`) and appends the pass of the next number (`next_pass`); at the end pass 0 is put before the others.
 use Rattle.std.proofs.Common.{rules, ◌∙◌, ℕ, List, [], ◌∷◌, ◌++◌, sym, ap}
 use Rattle.crossbeam_queue.specs.Passes.{view}
 use Rattle.atomic_table.specs.Seated.{TableId}

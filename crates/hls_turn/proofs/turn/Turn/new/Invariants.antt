@@ -1,3 +1,4 @@
+-- Pass 0 counts the passes made so far, and the others are the passes of the opening with the numbers from 1 on.
 use Rattle.std.proofs.Common.{◌≡◌, ◌-◌, map}
 use Rattle.std.specs.List.{range_with_len}
 use Rattle.crossbeam_queue.specs.Passes.{view, IsPassOf}

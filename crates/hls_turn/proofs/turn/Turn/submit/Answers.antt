@@ -1,3 +1,4 @@
+-- By the lemmas of Told on an applied event: the state that is put back, the pass afterwards, and what the pass then knows.
 use Rattle.std.proofs.Common.{rules, ℕ, sym, ◌∙◌, subst}
 use Rattle.crossbeam_queue.specs.Passes.{view}
 use Rattle.hls_core_laws.specs.Moves.{IsFittingAsSeen}
