@@ -6,7 +6,7 @@ use Rattle.hls_m3u8.specs.declared.playlist.MediaSegment.{MediaSegment}
 use Rattle.hls_m3u8.specs.Playlist.{Playlist}
 use Rattle.hls_m3u8.specs.Written.{init_at}
 
--- a VOD playlist
+-- a VOD playlist, over the resource of this URI with an init section of this length
 abbrev pub vod_list : ℕ → List ℕ → ℕ → List MediaSegment → Playlist
 vod_list target uri init_length segments = record {
   version = 6;
@@ -19,7 +19,7 @@ vod_list target uri init_length segments = record {
   ended = true;
 }
 
--- a live playlist, with the numbers of segments and marks that were removed
+-- the same for a live playlist, with the numbers of segments and marks that were removed
 abbrev pub live_list : ℕ → ℕ → ℕ → List ℕ → ℕ → List MediaSegment → Bool → Playlist
 live_list target media_sequence discontinuity_sequence uri init_length segments ended = record {
   version = 6;

@@ -3,7 +3,7 @@ use Rattle.std.specs.Prelude.{ℕ, suc, ◌-◌, ◌==◌, nat_lt, cond, List, [
 use Rattle.std.specs.Fmt.{decimal}
 use Rattle.hls_metrics.specs.Lines.{description}
 
--- the faults of boxes
+-- the name of a fault of boxes, by its number
 abbrev pub box_fault_name : ℕ → List ℕ
 box_fault_name n =
     cond (n == 0) (codes "BadSize")
@@ -13,7 +13,7 @@ box_fault_name n =
     (cond (n == 4) (codes "MoofWithoutMdat")
     (codes "Truncated")))))
 
--- the faults of an init section or a unit
+-- the name of a fault of an init section or a unit, by its number
 abbrev pub media_fault_name : ℕ → List ℕ
 media_fault_name n =
     cond (n == 0) (codes "BadBox")
@@ -30,7 +30,7 @@ media_fault_name n =
     (cond (n == 11) (codes "DataOutside")
     (codes "TimeTooLarge"))))))))))))
 
--- the refusals of the channel or of the body
+-- the name of a refusal of the channel or of the body, by its number
 abbrev pub channel_refusal_name : ℕ → List ℕ
 channel_refusal_name n =
     cond (n == 0) (codes "UnknownRendition")
@@ -45,13 +45,15 @@ channel_refusal_name n =
     (cond (n == 9) (codes "Memory")
     (codes "Other"))))))))))
 
--- all of them: those of boxes come first
+-- the name of refusal n: faults of boxes come first, then those of init sections and units
 abbrev pub refusal_name : ℕ → List ℕ
 refusal_name n = cond (nat_lt n 6) (box_fault_name n) (cond (nat_lt n 19) (media_fault_name (n - 6)) (channel_refusal_name (n - 19)))
 
+-- the beginning of a refusal's row, with the label that names it
 unfoldable pub refusal_label : ℕ → List ℕ
 refusal_label n = codes "hls_refusals_total{refusal=\"" ++ refusal_name n
 
+-- the row of refusal n with its count
 unfoldable pub refusal_row : ℕ → ℕ → List ℕ
 refusal_row n count = refusal_label n ++ (codes "\"} " ++ (decimal count ++ 10 ∷ []))
 
@@ -60,6 +62,7 @@ abbrev pub refusal_rows_from : ℕ → List ℕ → List ℕ
 refusal_rows_from n [] = []
 refusal_rows_from n (count ∷ counts) = refusal_row n count ++ refusal_rows_from (suc n) counts
 
+-- the bodies of encoders that were refused, by the refusal
 unfoldable pub refusal_metrics : List ℕ → List ℕ
 refusal_metrics counts =
     description (codes "hls_refusals_total") (codes "counter") (codes "Bodies of encoders that were refused, by the refusal.") ++ refusal_rows_from 0 counts

@@ -18,17 +18,19 @@ most_rate = 9007199254740991
 unfoldable pub bit_rate : ℕ → ℕ → ℕ
 bit_rate bytes us = if us == 0 then 0 else min most_rate ((8000000 * bytes + us - 1) / us)
 
--- a segment's bytes and length in a rendition
+-- a segment's bytes in a rendition
 abbrev pub bytes_in : RecordingData → ℕ → LiveSegment → ℕ
 bytes_in recorded r segment = offset_at recorded (spot_in segment.to.spots r).fragment - offset_at recorded (spot_in segment.from.spots r).fragment
 
+-- a segment's length in a rendition, in microseconds
 abbrev pub us_in : ℕ → LiveSegment → ℕ
 us_in r segment = (spot_in segment.to.spots r).prev_end - (spot_in segment.from.spots r).start
 
--- the highest rate of a segment, and all bytes and lengths together
+-- the measure of no segments: no highest rate, no bytes, no length
 abbrev pub nothing_measured : Measure
 nothing_measured = record { peak = 0; bytes = 0; us = 0 }
 
+-- a measure with one more segment: the highest rate of a segment, and all bytes and lengths together
 unfoldable pub and_segment : RecordingData → ℕ → Measure → LiveSegment → Measure
 and_segment recorded r m segment = record {
   peak = max m.peak (bit_rate (bytes_in recorded r segment) (us_in r segment));
@@ -36,9 +38,11 @@ and_segment recorded r m segment = record {
   us = m.us + us_in r segment;
 }
 
+-- the last 256 of some segments, or all if there are fewer
 abbrev pub newest : List LiveSegment → List LiveSegment
 newest segments = drop (length segments - most_measured) segments
 
+-- the measure of the newest of some segments in a rendition
 unfoldable pub measure_of : RecordingData → ℕ → List LiveSegment → Measure
 measure_of recorded r segments = fold (and_segment recorded r) nothing_measured (newest segments)
 

@@ -43,6 +43,7 @@ pub record GoesOn (p q : Playlist) : Type 0 where
   pub discontinuity_sequence : q.discontinuity_sequence ≡ p.discontinuity_sequence + count_by is_marked evicted
   pub ended : p.ended ≡ true → (q.ended ≡ true) × (appended ≡ [])
 
+-- a playlist that is valid as a later one keeps this
 goes-on : (p q : Playlist) → IsLater p q → GoesOn p q
 goes-on p q later = record {
   version = later.version;
@@ -56,7 +57,7 @@ goes-on p q later = record {
   ended = later.ended;
 }
 
--- so do the playlists by paths
+-- if a later playlist keeps this by ranges, it does by paths
 unfoldable pub goes-on-by_paths : (run : List ℕ) (r : ℕ) (p q : Playlist) → GoesOn p q → GoesOn (list_by_paths run r p) (list_by_paths run r q)
 goes-on-by_paths run r p q goes =
     let path : MediaSegment → MediaSegment = segment_in (media_folder run r) in
@@ -72,7 +73,7 @@ goes-on-by_paths run r p q goes =
       ended = λ over. ((goes.ended over).0, ap (map path) (goes.ended over).1);
     }
 
--- from the same segment on nothing is removed
+-- two joined lists without the first n, where n is k more than the first has, are the second list without its first k
 pub drop-evicted : (xs ys : List MediaSegment) (n k : ℕ) → n ≡ length xs + k → drop n (xs ++ ys) ≡ drop k ys
 drop-evicted [] ys n k is =
     let same : n ≡ k = omega (arith, is) in
@@ -80,6 +81,7 @@ drop-evicted [] ys n k is =
 drop-evicted (x ∷ xs) ys zero k is = absurd (omega (arith, is))
 drop-evicted (x ∷ xs) ys (suc n) k is = drop-evicted xs ys n k (omega (arith, is))
 
+-- the first n of two joined lists, where n is k more than the first has, are the first list and k of the second
 pub take-evicted : (xs ys : List MediaSegment) (n k : ℕ) → n ≡ length xs + k → take n (xs ++ ys) ≡ xs ++ take k ys
 take-evicted [] ys n k is =
     let same : n ≡ k = omega (arith, is) in
@@ -89,11 +91,13 @@ take-evicted (x ∷ xs) ys (suc n) k is = ap (λ (zs : List MediaSegment). x ∷
 
 -- ---- in two states
 
+-- an option has a value, which is mapped to y
 pub record IsMapped {A B : Type 0} (f : A → B) (o : Option A) (y : B) : Type 0 where
   pub value : A
   pub is : o ≡ Some value
   pub same : f value ≡ y
 
+-- if a mapped option is y, the option has a value, which is mapped to y
 pub is-mapped : {A B : Type 0} (f : A → B) (o : Option A) (y : B) → option_map f o ≡ Some y → IsMapped f o y
 is-mapped f None y is = absurd (cc)
 is-mapped f (Some x) y is = record { value = x; is = refl; same = same_Some (f x) y is }
@@ -105,6 +109,7 @@ pub record IsOfLine (s : State) (r : ℕ) (list : Playlist) : Type 0 where
   pub count : length list.segments ≡ length (segments_of (line s))
   pub ended : list.ended ≡ has_ended (line s)
 
+-- a state's playlist has the line's segments, and counts those that were removed
 pub is-of-line : (s : State) (r : ℕ) (list : Playlist) → IsState s → based_list_of s r ≡ Some list → IsOfLine s r list
 is-of-line s r list state is =
     let o : Offsets = offsets_from s.config.base r in
@@ -120,7 +125,7 @@ is-of-line s r list state is =
       ended = ap (λ (p : Playlist). p.ended) (sym same);
     }
 
--- the segments of a state that follows
+-- a state that follows has the closed segments of the earlier one, and perhaps more after them
 appended-segments : (a b : State) → Follows a b → (more : List LiveSegment) × (closed b ≡ closed a ++ more)
 appended-segments a b follows =
     let on = places_follow a b follows in
@@ -131,7 +136,7 @@ appended-segments a b follows =
           ∙ (ap (λ (ps : List Place). (line_of goal ps).segments) on.is ∙ longer.1),
     )
 
--- the playlists of two states, and their lines
+-- the second state has a playlist that is valid as a later one of p, and its line continues the first's
 pub record ListsGoOn (a b : State) (r : ℕ) (p : Playlist) : Type 0 where
   pub next : Playlist
   pub is : based_list_of b r ≡ Some next
@@ -145,6 +150,7 @@ none-left : {X : Type 0} (xs : List X) → length xs ≡ 0 → xs ≡ []
 none-left [] is = refl
 none-left (x ∷ xs) is = absurd (omega (arith, is))
 
+-- in a state that follows one with a playlist there is one that is valid as a later one, and the line continues that one's
 pub lists-go-on : BasedListsFollow → (a b : State) (r : ℕ) (p : Playlist) → IsState a → Follows a b → based_list_of a r ≡ Some p → ListsGoOn a b r p
 unfolding goes-on
 lists-go-on based_lists_follow a b r p state follows is =

@@ -11,29 +11,34 @@ use Rattle.hls_playlists.specs.declared.media_uris.MediaUris.{MediaUris}
 use Rattle.hls_playlists.specs.declared.media_uris.MediaUris.TheVariants.{Paths, PathsAbove, Ranges}
 use Rattle.hls_playlists.specs.MediaUris.{run_above, served_list, served_map}
 
+-- the channel's very first segment is joined by a shift and gets the mark of the offsets
 pub joined_first : (o : Offsets) (number : ℕ) (x : MediaSegment) → number ≡ 0 → with_mark o.marked (shifted_segment o.bytes x) ≡ joined_segment o number x
 joined_first o zero x is = refl
 joined_first o (suc number) x is = absurd (omega (arith, is))
 
+-- a segment other than the very first one is joined by a shift alone
 pub joined_other : (o : Offsets) (number : ℕ) (x : MediaSegment) → 0 < number → shifted_segment o.bytes x ≡ joined_segment o number x
 joined_other o zero x some = absurd (omega (arith, some))
 joined_other o (suc number) x some = refl
 
+-- before the very first segment is removed, only the base's marks precede
 pub none_uncounted : (base : BaseData) (r number : ℕ) → number ≡ 0 → base.marks ≡ base.marks + marks_uncounted (offsets_from base r) number
 none_uncounted base r zero is = omega arith
 none_uncounted base r (suc number) is = absurd (omega (arith, is))
 
+-- once the very first segment was removed and the base gives it a mark, one more mark precedes than the base's
 pub one_uncounted : (base : BaseData) (r number : ℕ) → 0 < number → base.marked ≡ true → base.marks + 1 ≡ base.marks + marks_uncounted (offsets_from base r) number
 one_uncounted base r zero some marked = absurd (omega (arith, some))
 one_uncounted base r (suc number) some marked = ap (λ (b : Bool). base.marks + cond {A = ℕ} b 1 0) (sym marked)
 
+-- if the base gives the very first segment no mark, only the base's marks precede
 pub unmarked_uncounted : (base : BaseData) (r number : ℕ) → base.marked ≡ false → base.marks ≡ base.marks + marks_uncounted (offsets_from base r) number
 unmarked_uncounted base r zero unmarked = omega arith
 unmarked_uncounted base r (suc number) unmarked =
     let none : cond {A = ℕ} base.marked 1 0 ≡ 0 = ap (λ (b : Bool). cond {A = ℕ} b 1 0) unmarked in
     omega (arith, none)
 
--- the head of a playlist without segments
+-- a playlist without segments that has the numbers and the init section of the served one is the served one
 pub head_served : (uris : MediaUris) (base : BaseData) (r : ℕ) (list : Playlist) (sequence marks before : ℕ) (map : Option InitSection) → list.segments ≡ [] →
     sequence ≡ base.segments + list.media_sequence → marks ≡ before + list.discontinuity_sequence →
     before ≡ base.marks + marks_uncounted (offsets_from base r) list.media_sequence → map ≡ served_map uris base r list.map →

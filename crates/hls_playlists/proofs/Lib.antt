@@ -1,3 +1,5 @@
+-- The lemmas of this crate: how playlists are made and written from a recording, with the ranges, dates and names of their segments, and
+-- playlists that begin later.
 pub mod Offsets
 pub mod Places
 mod ListLoop

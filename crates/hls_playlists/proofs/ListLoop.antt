@@ -7,6 +7,7 @@ use Rattle.hls_m3u8.specs.declared.playlist.MediaPlaylist.{MediaPlaylist}
 use Rattle.hls_m3u8.specs.Playlist.{Playlist, playlist_of}
 use Rattle.hls_playlists_laws.specs.JobPlaylists.{job_list, job_lists}
 
+-- with the playlist of rendition i added, the playlists made so far and those of the renditions after it are still all
 pub one_list_more : (epoch : Option ℤ) (recordings : List (Bor RecordingData)) (t : Table) (plan : List ℕ) (lists : List MediaPlaylist) (list : MediaPlaylist) (i : ℕ)
     (recording : Bor RecordingData) (whole : List Playlist) →
     i < length recordings → recording ≡ get_or recordings i recording → playlist_of list ≡ job_list epoch recording.now i t plan →

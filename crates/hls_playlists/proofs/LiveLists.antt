@@ -21,7 +21,7 @@ use Rattle.hls_playlists_laws.specs.Live.{live_uri, live_media_segment, live_lis
 use Rattle.hls_playlists_laws.specs.JobPlaylists.{job_layout}
 use Rattle.hls_playlists.specs.LiveWriter.{live_list_by, list_over_segments}
 
--- no segment was closed
+-- if no segment was removed and none is kept, none was closed
 unclosed : (s : State) → (line s).removed + length (segments_of (line s)) ≡ 0 → has_closed_segment (line s) ≡ false
 unclosed s none =
     elim (cases_Bool (has_closed_segment (line s))) [
@@ -29,18 +29,21 @@ unclosed s none =
       | inr is ↦ is
     ]
 
+-- while no segment was closed, there is no live playlist for a lane
 none-in : (s : State) (r : ℕ) (o : Option Lane) → has_closed_segment (line s) ≡ false → live_list_in s.config.epoch r o (line s) ≡ None
 none-in s r None none = refl
 none-in s r (Some l) none = cond-false (has_closed_segment (line s)) _ _ none
 
+-- a state that has neither removed a segment nor has one has no live playlists
 pub unlisted : (s : State) (r : ℕ) → (line s).removed + length (segments_of (line s)) ≡ 0 → live_list_of s r ≡ None
 unlisted s r none = none-in s r (slice_get (channel s).lanes r) (unclosed s none)
 
--- a rendition that hasn't begun has no playlist
+-- a lane without a recording has no init section
 no_init : (o : Option InitData) (l : Lane) (h : HeldBytes) → recorded_from o l h ≡ None → o ≡ None
 no_init None l h is = refl
 no_init (Some init) l h is = absurd (cc)
 
+-- a rendition without a recording has no live playlist, given its lane
 unbegun-in : (s : State) → IsState s → (r : ℕ) (o : Option Lane) → slice_get (channel s).lanes r ≡ o → recorded_at o (held_bytes s r) ≡ None →
     live_list_in s.config.epoch r o (line s) ≡ None
 unbegun-in s state r None at unbegun = refl
@@ -54,10 +57,11 @@ unbegun-in s state r (Some l) at unbegun =
       | inr none ↦ none-in s r (Some l) none
     ]
 
+-- a rendition without a recording has no live playlist
 pub unbegun : (s : State) → IsState s → (r : ℕ) → recording_of s r ≡ None → live_list_of s r ≡ None
 unbegun s state r is = unbegun-in s state r (slice_get (channel s).lanes r) refl is
 
--- the playlist of one that has
+-- the live playlist of a lane with an init section is made from its recording, if both count as many bytes for the section
 list-is : (s : State) (r : ℕ) (l : Lane) (h : HeldBytes) (init : InitData) (recorded : RecordingData) → l.size ≡ length h.head →
     recorded_from (Some init) l h ≡ Some recorded → live_list_over s.config.epoch r l (line s) ≡ live_list_by s r recorded
 list-is s r l h init recorded size is =
@@ -66,11 +70,13 @@ list-is s r l h init recorded size is =
     let by_size : live_list_over s.config.epoch r l (line s) ≡ live_list_by s r made = rw size refl in
     by_size ∙ ap (live_list_by s r) same
 
+-- the live playlist of a lane with a recording is made from the recording, given its init section
 by-init : (s : State) (r : ℕ) (l : Lane) (h : HeldBytes) (o : Option InitData) (recorded : RecordingData) → l.size ≡ length h.head →
     recorded_from o l h ≡ Some recorded → live_list_over s.config.epoch r l (line s) ≡ live_list_by s r recorded
 by-init s r l h None recorded size is = absurd (cc)
 by-init s r l h (Some init) recorded size is = list-is s r l h init recorded size is
 
+-- once a segment was closed, a lane with a recording has the live playlist that is made from the recording
 by-lane : (s : State) → IsState s → (r : ℕ) (o : Option Lane) (recorded : RecordingData) → slice_get (channel s).lanes r ≡ o →
     recorded_at o (held_bytes s r) ≡ Some recorded → 0 < (line s).removed + length (segments_of (line s)) → live_list_in s.config.epoch r o (line s) ≡ Some (live_list_by s r recorded)
 by-lane s state r None recorded at is some = absurd (cc)
@@ -81,11 +87,12 @@ by-lane s state r (Some l) recorded at is some =
     cond-true (has_closed_segment (line s)) _ _ (lt-ltb 0 ((line s).removed + length (segments_of (line s))) some)
     ∙ ap (λ (x : Playlist). Some x) (by-init s r l (held_bytes s r) l.init recorded size is)
 
+-- once a segment was closed, a rendition with a recording has the live playlist that is made from the recording
 pub listed-by : (s : State) → IsState s → (r : ℕ) (recorded : RecordingData) → recording_of s r ≡ Some recorded →
     0 < (line s).removed + length (segments_of (line s)) → live_list_of s r ≡ Some (live_list_by s r recorded)
 listed-by s state r recorded is some = by-lane s state r (slice_get (channel s).lanes r) recorded refl is some
 
--- a playlist made from the segments of a line
+-- a playlist that is made from a state's line, epoch and URI is the state's live playlist
 pub list-made : (s : State) (r : ℕ) (recorded : RecordingData) (live : Live) (epoch : Option ℤ) (uri : List ℕ) (segments : List MediaSegment) →
     live ≡ line s → epoch ≡ s.config.epoch → uri ≡ live_uri r →
     segments ≡ map (live_media_segment (job_layout epoch recorded r uri 0)) (segments_of live) → list_over_segments s recorded uri segments ≡ live_list_by s r recorded
@@ -96,7 +103,7 @@ list-made s r recorded live epoch uri segments live_is epoch_is uri_is segments_
     ∙ ap (λ (l : Live). map (live_media_segment (job_layout s.config.epoch recorded r (live_uri r) 0)) (segments_of l)) live_is) in
     λ k. list_over_segments s recorded (uri_is k) (all k)
 
--- one more segment
+-- with the next segment of a walk added, those so far and those of the rest are still all
 pub one_listed_more : (cut : ResourceLayout) (before more : List MediaSegment) (walk rest : List live_line.LiveSegment) (x : live_line.LiveSegment) (segment : MediaSegment)
     (whole : List MediaSegment) → walk ≡ x ∷ rest → more ≡ before ++ segment ∷ [] → segment ≡ live_media_segment cut x → before ++ map (live_media_segment cut) walk ≡ whole →
     more ++ map (live_media_segment cut) rest ≡ whole

@@ -12,6 +12,7 @@ use Rattle.hls_playlists_laws.specs.JobResource.{bytes_between}
 pub up_to : (facts : List Facts) (a d : ℕ) → sum_by len_of (take (a + d) facts) ≡ sum_by len_of (take a facts) + sum_by len_of (take d (drop a facts))
 up_to facts a d = ap (sum_by len_of) (take-add a d facts) ∙ sum_by-append len_of (take a facts) (take d (drop a facts))
 
+-- the offset of a unit is that of an earlier one plus the bytes between
 pub offsets_add : (r : RecordingData) (a b : ℕ) → a ≤ b → offset_at r b ≡ offset_at r a + bytes_between r.facts a b
 offsets_add r a b up =
     let whole : a + (b - a) ≡ b = omega arith in
@@ -20,9 +21,11 @@ offsets_add r a b up =
     ap (λ n. sum_by len_of (take n r.facts)) (sym whole) ∙ sum in
     omega (arith, moved)
 
+-- between a unit and an earlier one there are no bytes
 none_between : (facts : List Facts) (a b : ℕ) → b ≤ a → bytes_between facts a b ≡ 0
 none_between facts a b down = ap (λ n. sum_by len_of (take n (drop a facts))) (let none : b - a ≡ 0 = omega arith in none)
 
+-- the bytes between two units are the difference of their offsets
 pub bytes_are_offsets : (r : RecordingData) (a b : ℕ) → bytes_between r.facts a b ≡ offset_at r b - offset_at r a
 bytes_are_offsets r a b = elim (cases_lt a b) [
   | inl up ↦ (let sum = offsets_add r a b (omega arith) in omega arith)

@@ -41,6 +41,7 @@ use Rattle.hls_playlists.proofs.StartsOn.{LineGoesOn, segments-on}
 
 -- ---- the greatest number
 
+-- the greatest number up to n is at most n
 most-few : (us : ℕ) (live : Live) (n : ℕ) → most_to us live n ≤ n
 most-few us live zero = omega arith
 most-few us live (suc n) = by (shows_enough us live (suc n)) (most-few us live n)
@@ -49,7 +50,7 @@ most-few us live (suc n) = by (shows_enough us live (suc n)) (most-few us live n
     by true rest = omega arith
     by false rest = omega (arith, rest)
 
--- none between it and the bound shows enough
+-- each number up to n that shows enough is at most the greatest one
 most-is : (us : ℕ) (live : Live) (n m : ℕ) → m ≤ n → shows_enough us live m ≡ true → m ≤ most_to us live n
 most-is us live zero m within enough = within
 most-is us live (suc n) m within enough = by (shows_enough us live (suc n)) refl (λ less. most-is us live n m less enough)
@@ -63,6 +64,7 @@ most-is us live (suc n) m within enough = by (shows_enough us live (suc n)) refl
       | inr other ↦ rest (omega (arith, within, other))
     ]
 
+-- the greatest number of hidden segments, if it is above 0, leaves enough shown
 most-shows : (us : ℕ) (live : Live) (n : ℕ) → 0 < most_to us live n → shows_enough us live (most_to us live n) ≡ true
 most-shows us live zero some = absurd (omega (arith, some))
 most-shows us live (suc n) some = by (shows_enough us live (suc n)) refl (most-shows us live n) some
@@ -72,6 +74,7 @@ most-shows us live (suc n) some = by (shows_enough us live (suc n)) refl (most-s
     by true is rest any = is
     by false is rest any = rest any
 
+-- a line that leaves enough without its first n segments shows enough without them
 shows-by : (us : ℕ) (live : Live) (n : ℕ) → LineLeaves live us n → shows_enough us live n ≡ true
 shows-by us live n leaves = and_from _ _ (le-leb us (remaining_length 0 (segments_of live) n) leaves.in_window) leaves.long
 
@@ -80,17 +83,19 @@ record Shows (us : ℕ) (live : Live) (n : ℕ) : Type 0 where
   window : us ≤ remaining_length 0 (segments_of live) n
   long : is_long live.line_goal (renditions_of live.progress.line.segment_start) (segments_of live) n ≡ true
 
+-- what is shown without the first n segments lasts the given time in rendition 0, and three target durations in each
 shown : (us : ℕ) (live : Live) (n : ℕ) → shows_enough us live n ≡ true → Shows us live n
 shown us live n enough =
     let parts = and_parts (leb us (remaining_length 0 (segments_of live) n)) (is_long live.line_goal (renditions_of live.progress.line.segment_start) (segments_of live) n) enough in
     record { window = leb-true us (remaining_length 0 (segments_of live) n) parts.0; long = parts.1 }
 
+-- a line that shows enough without its first n segments leaves enough without them
 leaves-by : (us : ℕ) (live : Live) (n : ℕ) → n ≤ length (segments_of live) → shows_enough us live n ≡ true → LineLeaves live us n
 leaves-by us live n within enough =
     let shows = shown us live n enough in
     record { within = within; in_window = shows.window; long = shows.long }
 
--- the slide that is found is that number
+-- the greatest slide of a line is the number of its hidden segments
 pub hidden-is : (us : ℕ) (live : Live) (n : ℕ) → IsMostSlide live us n → n ≡ hidden_count us live
 hidden-is us live n most =
     let count : ℕ = hidden_count us live in
@@ -105,11 +110,13 @@ hidden-is us live n most =
     ] in
     omega (arith, up, down)
 
+-- no more segments are hidden than the line has
 pub hidden-few : (us : ℕ) (live : Live) → hidden_count us live ≤ length (segments_of live)
 hidden-few us live = most-few us live (length (segments_of live))
 
 -- ---- the length in each rendition
 
+-- `each_below` is true only if the test passes for each number below the bound
 each-at : (test : ℕ → Bool) (bound r : ℕ) → r < bound → each_below bound test ≡ true → test r ≡ true
 each-at test zero r h is = absurd (omega (arith, h))
 each-at test (suc bound) r h is =
@@ -119,15 +126,17 @@ each-at test (suc bound) r h is =
       | inr other ↦ each-at test bound r (omega (arith, h, other)) parts.0
     ]
 
+-- `each_below` is true if the test passes for each number below the bound
 each-of : (test : ℕ → Bool) (bound : ℕ) → ((r : ℕ) → r < bound → test r ≡ true) → each_below bound test ≡ true
 each-of test zero each = refl
 each-of test (suc bound) each =
     and_from (each_below bound test) (test bound) (each-of test bound (λ r h. each r (omega (arith, h)))) (each bound (omega arith))
 
--- a line of places is open
+-- a segment of a line is open
 abbrev HasStart : Line → Type 0
 HasStart t = (o : SegmentStart) × (t.segment_start ≡ Some o)
 
+-- a line that looks ahead to its next segment has an open one, if its continuation has
 start-by : (continuation : Bool → SegmentStart → List Place → Line) → ((earlier : Bool) (o : SegmentStart) (rest : List Place) → HasStart (continuation earlier o rest)) →
     (earlier : Bool) (o : SegmentStart) (ahead : Lookahead) → HasStart (line_from_lookahead continuation earlier o ahead)
 start-by continuation has earlier o Nothing = (o, refl)
@@ -135,12 +144,13 @@ start-by continuation has earlier o (Enough to rest) = has true (start_at to) re
 start-by continuation has earlier o (TooFar (Some last) at rest) = has true (start_at last) (at ∷ rest)
 start-by continuation has earlier o (TooFar None at rest) = has earlier (restart_at at) rest
 
+-- a line from a place on has an open segment
 start-within : (goal : LineGoal) (most : ℕ) (earlier : Bool) (o : SegmentStart) (rest : List Place) → HasStart (line_within goal most earlier o rest)
 unfolding line_within
 start-within goal zero earlier o rest = (o, refl)
 start-within goal (suc most) earlier o rest = start-by (line_within goal most) (start-within goal most) earlier o (ahead_of goal o.place rest)
 
--- a place of a state's line has a spot in each rendition
+-- once a segment was closed, the open place of a state's line has a spot in each rendition
 open-count : FrontIsAPlace → (s : State) → IsState s → 0 < length (closed s) → renditions_of (line s).progress.line.segment_start ≡ length (sources s)
 open-count front_stands s state some = by (places s) refl
   where
@@ -158,7 +168,7 @@ open-count front_stands s state some = by (places s) refl
 
 -- ---- playlists
 
--- what a playlist by paths lasts, its segments are long in the rendition
+-- without the first n segments, a playlist lasts as long as the line's segments in its rendition
 lasts-in : (s : State) (r : ℕ) (list : Playlist) → IsState s → based_list_of s r ≡ Some list → (n : ℕ) →
     sum_by length_us (drop n list.segments) ≡ remaining_length r (segments_of (line s)) n
 lasts-in s r list state is n =
@@ -194,6 +204,7 @@ lasts-in s r list state is n =
         let two = sum_by-cons (length_in cut.rendition) x xs in
         omega (arith, one, two, listed-lasts cut xs)
 
+-- segments under paths last, added up, as long as under ranges
 named-last : (folder : List ℕ) (xs : List MediaSegment) → sum_by length_us (map (segment_in folder) xs) ≡ sum_by length_us xs
 named-last folder [] = refl
 named-last folder (x ∷ xs) =
@@ -201,7 +212,7 @@ named-last folder (x ∷ xs) =
     let two = sum_by-cons length_us x xs in
     omega (arith, one, two, named-last folder xs)
 
--- a later playlist that hides no fewer of the channel's segments
+-- a later playlist without its first k segments is valid after one without its first n, if it hides no fewer and three target durations are left
 later-shortened : (kind : Option PlaylistKind) (p q : Playlist) (n k : ℕ) → (goes : GoesOn p q) → n ≤ length p.segments → k ≤ length q.segments → n ≤ length goes.evicted + k →
     (n < length goes.evicted + k → q.ended ≡ false → 3 * q.target * 1000000 ≤ sum_by length_us (drop k q.segments)) →
     IsLater (shortened_list kind n p) (shortened_list kind k q)
@@ -272,7 +283,7 @@ shown-long front_stands us s state r list is some =
 
 -- ---- in two states
 
--- what is hidden stays so
+-- a segment that is hidden in a state is hidden or removed in a state that follows
 hides-on : FrontIsAPlace → (us : ℕ) (a b : State) → IsState a → IsState b → b.config ≡ a.config → length (sources b) ≡ length (sources a) → LineGoesOn a b →
     (channel a).removed + hidden_count us (line a) ≤ (channel b).removed + hidden_count us (line b)
 hides-on front_stands us a b state state_b config renditions goes =
@@ -321,6 +332,7 @@ hides-on front_stands us a b state state_b config renditions goes =
           omega (arith, most, past)
     ]
 
+-- in a state that follows one with a playlist of the last segments there is one, which is valid as a later one
 pub recent-lists-follow : FrontIsAPlace → BasedListsFollow → RecentListsFollow
 unfolding goes-on-by_paths
 recent-lists-follow front_stands based_lists_follow us a b r earlier state follows is =

@@ -43,16 +43,17 @@ marks-in_folder folder (x ∷ xs) =
     let two = sum_by-cons (λ (y : MediaSegment). cond (is_marked y) 1 0) x xs in
     omega (arith, one, two, marks-in_folder folder xs)
 
--- one more segment
+-- a mark counts at most 1
 pub mark-few : (b : Bool) → cond {A = ℕ} b 1 0 ≤ 1
 mark-few true = omega arith
 mark-few false = omega arith
 
+-- the marks of the first k + 1 segments of a walk are that of its first one and those of k of the others
 pub marks-next : (k : ℕ) (walk rest : List live_line.LiveSegment) (x : live_line.LiveSegment) → walk ≡ x ∷ rest →
     marks_in (suc k) walk ≡ cond {A = ℕ} x.mark 1 0 + marks_in k rest
 marks-next k walk rest x is = ap (marks_in (suc k)) is ∙ sum_by-cons (λ (y : live_line.LiveSegment). cond (is_break y) 1 0) x (take k rest)
 
--- .. and so has one of the live line
+-- a segment of a playlist has the mark that it has in the live line
 marks-listed : (cut : ResourceLayout) (xs : List live_line.LiveSegment) → count_by is_marked (map (live_media_segment cut) xs) ≡ count_by is_break xs
 marks-listed cut [] = refl
 marks-listed cut (x ∷ xs) =
@@ -60,6 +61,7 @@ marks-listed cut (x ∷ xs) =
     let two = sum_by-cons (λ (y : live_line.LiveSegment). cond (is_break y) 1 0) x xs in
     omega (arith, one, two, marks-listed cut xs)
 
+-- the first n segments of a served playlist have as many marks as those of the joined one
 marks-served : (uris : MediaUris) (base : BaseData) (r n : ℕ) (p : Playlist) →
     count_by is_marked (take n (served_list uris base r p).segments) ≡ count_by is_marked (take n (joined_list (offsets_from base r) p).segments)
 marks-served Ranges base r n p = refl
@@ -82,6 +84,7 @@ breaks-few s state =
 
 -- ---- the numbers of a playlist without its first segments
 
+-- the head that counts n segments and their marks as removed is that of the served playlist without these, if both count the same marks
 short-head : (uris : MediaUris) (base : BaseData) (r n marks : ℕ) (kind : Option PlaylistKind) (p : Playlist) →
     (joined_list (offsets_from base r) (shortened_head kind n marks p)).discontinuity_sequence
     ≡ (joined_list (offsets_from base r) p).discontinuity_sequence + count_by is_marked (take n (served_list uris base r p).segments) →
@@ -96,12 +99,14 @@ short-head PathsAbove base r n marks kind p marks_are =
     let sequence : base.segments + (p.media_sequence + n) ≡ base.segments + p.media_sequence + n = omega arith in
     λ k. head_lines (record (shortened_list kind n (served_list PathsAbove base r p)) { media_sequence = sequence k; discontinuity_sequence = marks_are k })
 
+-- if n items begin a list that is at least as long, they are its first n
 front-is : (xs rest : List MediaSegment) (n : ℕ) (all more : List MediaSegment) → n ≤ length all → length xs ≡ n → all ++ more ≡ xs ++ rest → take n all ≡ xs
 front-is xs rest n all more few count same =
     sym (take-append-le n all more few) ∙ (ap (take n) same ∙ take_at xs rest n count)
 
 module _ (s : State) (state : IsState s) (r : ℕ) (recorded : RecordingData) (there : live_list_of s r ≡ Some (live_list_by s r recorded)) (n : ℕ)
     (few : n ≤ length (segments_of (line s))) where
+  -- the process's own playlist
   abbrev own : Playlist
   own = live_list_by s r recorded
 
@@ -111,6 +116,7 @@ module _ (s : State) (state : IsState s) (r : ℕ) (recorded : RecordingData) (t
   own-count : length own.segments ≡ length (segments_of (line s))
   own-count = length-map (segments_of (line s)) (live_media_segment cut)
 
+  -- its first n segments have the marks of the line's first n
   marks-own : count_by is_marked (take n own.segments) ≡ marks_in n (segments_of (line s))
   marks-own = ap (count_by is_marked) (take-map (live_media_segment cut) n (segments_of (line s))) ∙ marks-listed cut (take n (segments_of (line s)))
 
@@ -118,6 +124,7 @@ module _ (s : State) (state : IsState s) (r : ℕ) (recorded : RecordingData) (t
   abbrev short : Playlist
   short = record (shortened_list own.kind n own) { ended = true }
 
+  -- the shortened playlist is valid as a later one of the whole
   short-later : IsLater own short
   short-later = record {
     version = refl;
@@ -134,6 +141,7 @@ module _ (s : State) (state : IsState s) (r : ℕ) (recorded : RecordingData) (t
         absurd (cc);
   }
 
+  -- the channel's very first segment has no mark, if it is left out
   first-unmarked : (x : MediaSegment) → own.media_sequence ≡ 0 → slice_get (take n own.segments) 0 ≡ Some x → x.mark ≡ false
   first-unmarked x none at =
       let on = is-listed s state r own there in
@@ -153,6 +161,7 @@ module _ (s : State) (state : IsState s) (r : ℕ) (recorded : RecordingData) (t
       let front = front-is later.evicted (joined_list o short).segments n (joined_list o own).segments later.appended (omega (arith, few, own-count, count)) number later.segments in
       later.discontinuity_sequence ∙ ap (λ (xs : List MediaSegment). (joined_list o own).discontinuity_sequence + count_by is_marked xs) (sym front)
 
+  -- the written head, followed by the rest from segment n on, is the text of the served playlist without its first n segments
   pub begun-short : (uris : MediaUris) (kind : Option PlaylistKind) (uri text : List ℕ) (list : Playlist) → uri ≡ live_uri r →
       list ≡ served_list uris s.config.base r (shortened_head kind n (marks_in n (segments_of (line s))) (list_over_segments s recorded uri [])) →
       text ≡ text_of_lines (head_lines list) →
@@ -185,7 +194,7 @@ module _ (s : State) (state : IsState s) (r : ℕ) (recorded : RecordingData) (t
       bare-head Paths = refl
       bare-head PathsAbove = refl
 
--- there is none where there is no playlist
+-- a rendition without a served playlist has none without its first segments
 pub short-none : (uris : MediaUris) (kind : Option PlaylistKind) (n : ℕ) (s : State) (r : ℕ) → served_list_of uris s r ≡ None →
     shortened_list_of uris kind n s r ≡ None
 short-none uris kind n s r none = ap (option_map (shortened_list kind n)) none

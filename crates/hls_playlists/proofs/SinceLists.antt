@@ -31,7 +31,7 @@ use Rattle.hls_playlists.specs.StartLaws.{HasGrown, ListsSinceGrow, RemovedLists
 use Rattle.hls_playlists.proofs.StartsOn.{gone-on, kept-on, kept-within}
 use Rattle.hls_playlists.proofs.GoingOn.{GoesOn, drop-evicted, goes-on-by_paths, is-mapped, is-of-line, lists-go-on, take-evicted}
 
--- the playlists without as many segments in front of the same one
+-- if both playlists hide the segments before the same one, the later one has grown
 grown-shortened : (kind : Option PlaylistKind) (p q : Playlist) (n k : ℕ) → (goes : GoesOn p q) → n ≡ length goes.evicted + k → n ≤ length p.segments →
     HasGrown (shortened_list kind n p) (shortened_list kind k q)
 grown-shortened kind p q n k goes number few = record {
@@ -55,7 +55,7 @@ grown-shortened kind p q n k goes number few = record {
   begins = omega (arith, goes.media_sequence, number);
 }
 
--- a playlist since a time, and the one that it is cut from
+-- a playlist since a time is cut from the state's playlist, by paths, at the kept segment with that time
 record IsSince (us : ℕ) (s : State) (r : ℕ) (list : Playlist) : Type 0 where
   n : ℕ
   start : start_in us (line s) ≡ Kept n
@@ -63,6 +63,7 @@ record IsSince (us : ℕ) (s : State) (r : ℕ) (list : Playlist) : Type 0 where
   is : based_list_of s r ≡ Some whole
   cut : shortened_list (Some Event) n (list_by_paths (run_above s.config.base) r whole) ≡ list
 
+-- a playlist since a time is cut from the state's playlist at a kept segment, given where the time is in the line
 since-by : (us : ℕ) (s : State) (r : ℕ) (list : Playlist) (start : StartTime) → start_in us (line s) ≡ start → list_since_start start s r ≡ Some list → IsSince us s r list
 since-by us s r list (Kept n) start is =
     let cut = is-mapped (shortened_list (Some Event) n) (served_list_of PathsAbove s r) list is in
@@ -78,9 +79,11 @@ since-by us s r list Removed start is = absurd (cc)
 since-by us s r list Before start is = absurd (cc)
 since-by us s r list After start is = absurd (cc)
 
+-- a playlist since a time is cut from the state's playlist at the kept segment with that time
 is-since : (us : ℕ) (s : State) (r : ℕ) (list : Playlist) → list_since us s r ≡ Some list → IsSince us s r list
 is-since us s r list is = since-by us s r list (start_in us (line s)) refl is
 
+-- in a state that follows one with a playlist since a time, that playlist has grown, or its first segment was removed
 pub lists-since-grow : FrontIsAPlace → LineFromCutAgrees → PlacesNeverGoBack → BasedListsFollow → ListsSinceGrow
 unfolding goes-on-by_paths
 lists-since-grow front_stands cuts_agree go_on based_lists_follow us a b r earlier state follows is =
@@ -113,6 +116,7 @@ lists-since-grow front_stands cuts_agree go_on based_lists_follow us a b r earli
           inl (cut, there, subst (λ (x : Playlist). HasGrown x cut) since.cut grown)
     ]
 
+-- if the first segment of a playlist since a time was removed, the time stays in a removed segment in each later state
 pub removed-stay-removed : FrontIsAPlace → LineFromCutAgrees → PlacesNeverGoBack → BasedListsFollow → RemovedListsStayRemoved
 removed-stay-removed front_stands cuts_agree go_on based_lists_follow us a b c r earlier state ab bc is removed =
     let since = is-since us a r earlier is in

@@ -21,17 +21,18 @@ use Rattle.hls_core_laws.specs.Line.{line_goal_of}
 use Rattle.hls_core_laws.proofs.Callers.{at_drop, floors-count, mapped_at, sources_count, lanes_count, spots-count, states_are_timed, times-rise}
 use Rattle.hls_playlists_laws.proofs.Callers.{closed}
 
--- from an element on
+-- a list from the index of an item on begins with this item
 drop-at : {X : Type 0} (xs : List X) (k : ℕ) (x : X) → slice_get xs k ≡ Some x → (rest : List X) × (drop k xs ≡ x ∷ rest)
 drop-at [] k x at = absurd (cc)
 drop-at (y ∷ xs) zero x at = (xs, ap (λ z. z ∷ xs) (same_Some y x at))
 drop-at (y ∷ xs) (suc k) x at = drop-at xs k x at
 
+-- the front of a line with segments is its first segment's start
 front-at : (xs : List LiveSegment) (segment_start : Option SegmentStart) (x : LiveSegment) (rest : List LiveSegment) → xs ≡ x ∷ rest →
     front_place xs segment_start ≡ Some x.from
 front-at xs segment_start x rest is = ap (λ (ys : List LiveSegment). front_place ys segment_start) is
 
--- a segment after the first, counted from a cut
+-- a segment after the first is at the same index once all are counted from a cut
 since-at : (cut : List Spot) (xs : List LiveSegment) (k : ℕ) (x : LiveSegment) → slice_get xs (suc k) ≡ Some x →
     slice_get (segments_since cut xs) (suc k) ≡ Some (segment_since cut x)
 since-at cut [] k x at = absurd (cc)
@@ -59,6 +60,7 @@ module _ (front_stands : FrontIsAPlace) (cuts_agree : LineFromCutAgrees) (go_on 
     there : slice_get (places s) number ≡ Some p
     some : 0 < length p.spots
 
+  -- each of the places of a state has a spot in some rendition
   stands : (number : ℕ) (p : Place) → slice_get (places s) number ≡ Some p → Stands p
   stands number p there = record {
     number = number;
@@ -66,12 +68,14 @@ module _ (front_stands : FrontIsAPlace) (cuts_agree : LineFromCutAgrees) (go_on 
     some = omega (arith, spots-count s state number p there, floors-count s, sources_count s, lanes_count s.config s.log, state.configured.renditions.some);
   }
 
+  -- each closed segment starts at a place of the state
   starts-stand : (k : ℕ) (x : LiveSegment) → slice_get (closed s) k ≡ Some x → Stands x.from
   starts-stand k x at =
       let on = drop-at (closed s) k x at in
       let one = front_stands goal (places s) k x.from (front-at (drop k (closed s)) (line_of goal (places s)).segment_start x on.0 on.1) in
       stands one.number x.from one.there
 
+  -- a closed segment starts no later than one after it
   pub starts-rise : (i n : ℕ) (x y : LiveSegment) → slice_get (closed s) i ≡ Some x → slice_get (closed s) (i + n) ≡ Some y → time_of x.from ≤ time_of y.from
   starts-rise i zero x y at also =
       let same : x ≡ y = same_Some x y (sym at ∙ (ap (slice_get (closed s)) (omega arith) ∙ also)) in

@@ -21,6 +21,7 @@ use Rattle.hls_playlists.proofs.Starts.{starts-rise}
 
 -- ---- how many segments started
 
+-- no more segments started than there are
 pub count-few : (us : ℕ) (xs : List LiveSegment) → count_started us xs ≤ length xs
 count-few us [] = omega arith
 count-few us (x ∷ xs) = by (leb (time_of x.from) us) (count-few us xs)
@@ -29,7 +30,7 @@ count-few us (x ∷ xs) = by (leb (time_of x.from) us) (count-few us xs)
     by true rest = omega (arith, rest)
     by false rest = omega arith
 
--- those after them don't count
+-- if not all segments started, ones that are appended don't change how many did
 count-append : (us : ℕ) (xs ys : List LiveSegment) → count_started us xs < length xs → count_started us (xs ++ ys) ≡ count_started us xs
 count-append us [] ys less = absurd (omega (arith, less))
 count-append us (x ∷ xs) ys less = by (leb (time_of x.from) us) (count-append us xs ys) less
@@ -39,7 +40,7 @@ count-append us (x ∷ xs) ys less = by (leb (time_of x.from) us) (count-append 
     by true rest few = ap suc (rest (omega (arith, few)))
     by false rest few = refl
 
--- without the first of them
+-- without the first e of the segments that started, e fewer started
 count-drop : (us e : ℕ) (xs : List LiveSegment) → e ≤ count_started us xs → count_started us (drop e xs) ≡ count_started us xs - e
 count-drop us zero xs few =
     let same : count_started us xs ≡ count_started us xs - 0 = omega arith in
@@ -52,12 +53,13 @@ count-drop us (suc e) (x ∷ xs) few = by (leb (time_of x.from) us) (count-drop 
     by true rest more = omega (arith, more, rest (omega (arith, more)))
     by false rest more = absurd (omega (arith, more))
 
--- the next one starts later
+-- segment n starts later than the time
 record StartsLater (us : ℕ) (xs : List LiveSegment) (n : ℕ) : Type 0 where
   next : LiveSegment
   at : slice_get xs n ≡ Some next
   later : us < time_of next.from
 
+-- if not all segments started, the one after those that did starts later
 count-next : (us : ℕ) (xs : List LiveSegment) → count_started us xs < length xs → StartsLater us xs (count_started us xs)
 count-next us [] less = absurd (omega (arith, less))
 count-next us (x ∷ xs) less = by (leb (time_of x.from) us) refl (count-next us xs) less
@@ -69,7 +71,7 @@ count-next us (x ∷ xs) less = by (leb (time_of x.from) us) refl (count-next us
         record { next = on.next; at = on.at; later = on.later }
     by false is rest few = record { next = x; at = refl; later = leb-false (time_of x.from) us is }
 
--- none started
+-- if the first segment starts later, none started
 count-none : (us : ℕ) (xs : List LiveSegment) → ((y : LiveSegment) → slice_get xs 0 ≡ Some y → us < time_of y.from) → count_started us xs ≡ 0
 count-none us [] later = refl
 count-none us (y ∷ rest) later = by (leb (time_of y.from) us) refl
@@ -80,11 +82,13 @@ count-none us (y ∷ rest) later = by (leb (time_of y.from) us) refl
 
 -- ---- the start
 
+-- segment n is the last one that started, and it is the one at the time
 record IsKept (us : ℕ) (live : Live) (n : ℕ) : Type 0 where
   some : 0 < count_started us (segments_of live)
   known : is_known us live (count_started us (segments_of live)) ≡ true
   number : n + 1 ≡ count_started us (segments_of live)
 
+-- if a time is in kept segment n, that is the last one that started, and it is the one at the time
 is-kept : (us : ℕ) (live : Live) (n : ℕ) → start_in us live ≡ Kept n → IsKept us live n
 is-kept us live n is =
     let count : ℕ = count_started us (segments_of live) in
@@ -101,24 +105,27 @@ is-kept us live n is =
     by false known false true some is kept = absurd (cc)
     by false known false false some is kept = absurd (cc)
 
--- a kept segment is one of the line's
+-- if a time is in kept segment n, the line has more than n segments
 pub kept-within : (us : ℕ) (s : State) (n : ℕ) → start_in us (line s) ≡ Kept n → n < length (segments_of (line s))
 kept-within us s n is =
     let kept = is-kept us (line s) n is in
     omega (arith, kept.number, count-few us (segments_of (line s)))
 
+-- a time is in kept segment n if that is the last one that started, and it is the one at the time
 kept-is : (us : ℕ) (live : Live) (n : ℕ) → IsKept us live n → start_in us live ≡ Kept n
 kept-is us live n kept =
     let count : ℕ = count_started us (segments_of live) in
     let number : count - 1 ≡ n = omega (arith, kept.number) in
     cond-true (ltb 0 count) _ _ (lt-ltb 0 count kept.some) ∙ (cond-true (is_known us live count) _ _ kept.known ∙ ap Kept number)
 
+-- if no kept segment started and some were removed, the time is in a removed one
 removed-is : (us : ℕ) (live : Live) → count_started us (segments_of live) ≡ 0 → 0 < live.removed → start_in us live ≡ Removed
 removed-is us live none some =
     ap (start_by us live) none ∙ cond-true (ltb 0 live.removed) _ _ (lt-ltb 0 live.removed some)
 
--- ---- a line that goes on
+-- ---- a line that continues
 
+-- the second state's line continues the first's: segments are appended or removed from the front, and a line that ended stays so
 pub record LineGoesOn (a b : State) : Type 0 where
   pub appended : List LiveSegment
   pub closed_is : closed b ≡ closed a ++ appended
@@ -147,6 +154,7 @@ IsFollowed us live =
     (count_started us (segments_of live) < length (segments_of live))
     ⊎ ((length (segments_of live) ≤ count_started us (segments_of live)) × (has_ended live ≡ true) × (ends_after us (segments_of live) ≡ true))
 
+-- a segment that is known to be the one at the time is followed by another one, or the line ended after the time
 is-followed : (us : ℕ) (live : Live) → is_known us live (count_started us (segments_of live)) ≡ true → IsFollowed us live
 is-followed us live known =
     let count : ℕ = count_started us (segments_of live) in
@@ -157,11 +165,13 @@ is-followed us live known =
           inr (ltb-false count (length (segments_of live)) last, parts.0, parts.1)
     ]
 
+-- an item of a list is at the same index once others are appended
 at-front : (xs ys : List LiveSegment) (k : ℕ) (x : LiveSegment) → slice_get xs k ≡ Some x → slice_get (xs ++ ys) k ≡ Some x
 at-front [] ys k x at = absurd (cc)
 at-front (z ∷ xs) ys zero x at = at
 at-front (z ∷ xs) ys (suc k) x at = at-front xs ys k x at
 
+-- the second line's segments are the first's and the appended ones, without those that were removed since
 pub segments-on : (a b : State) → IsState a → (goes : LineGoesOn a b) →
     segments_of (line b) ≡ drop ((channel b).removed - (channel a).removed) (segments_of (line a) ++ goes.appended)
 segments-on a b state goes =
@@ -173,7 +183,7 @@ segments-on a b state goes =
     ∙ (sym (drop-drop (rb - ra) ra (closed a ++ goes.appended))
     ∙ ap (drop (rb - ra)) (drop-append-le ra (closed a) goes.appended (removed-few a state))))
 
--- the same segments, without the first ones, once the line has ended
+-- once the line has ended, the later line has the same segments, without those that were removed since
 ended-segments : (a b : State) → IsState a → (goes : LineGoesOn a b) → has_ended (line a) ≡ true →
     segments_of (line b) ≡ drop ((channel b).removed - (channel a).removed) (segments_of (line a))
 ended-segments a b state goes over =
@@ -181,7 +191,7 @@ ended-segments a b state goes over =
     ∙ ap (λ (more : List LiveSegment). drop ((channel b).removed - (channel a).removed) (segments_of (line a) ++ more)) (goes.ended over).1
     ∙ ap (drop ((channel b).removed - (channel a).removed)) (append-nil (segments_of (line a)))
 
--- while the segment is kept it is the one at the time
+-- while the segment at a time is kept, it stays the one at the time
 pub kept-on : (a b : State) (us n : ℕ) → IsState a → LineGoesOn a b → start_in us (line a) ≡ Kept n → (channel b).removed ≤ (channel a).removed + n →
     start_in us (line b) ≡ Kept ((channel a).removed + n - (channel b).removed)
 kept-on a b us n state goes is few =
@@ -222,7 +232,7 @@ kept-on a b us n state goes is few =
           }
     ])
 
--- then it is gone, and no later one takes its place
+-- once the segment at a time was removed, the time is in a removed segment
 pub gone-on : FrontIsAPlace → LineFromCutAgrees → PlacesNeverGoBack → (a b : State) (us n : ℕ) → IsState a → IsState b → LineGoesOn a b →
     start_in us (line a) ≡ Kept n → (channel a).removed + n < (channel b).removed → start_in us (line b) ≡ Removed
 gone-on front_stands cuts_agree go_on a b us n state state_b goes is past =

@@ -24,11 +24,11 @@ abbrev pub list_over_segments : State → RecordingData → List ℕ → List Me
 list_over_segments s recorded uri segments =
     live_list s.config.target (line s).removed (line s).breaks uri (length recorded.head) segments (has_ended (line s))
 
--- that of a state
+-- a state's live playlist over a recording
 abbrev pub live_list_by : State → ℕ → RecordingData → Playlist
 live_list_by s r recorded = list_over_segments s recorded (live_uri r) (map (live_media_segment (job_layout s.config.epoch recorded r (live_uri r) 0)) (segments_of (line s)))
 
--- a playlist without segments as the head of one without its first n segments, which have so many marks
+-- a playlist with the head of one without its first n segments, which have this number of marks
 abbrev pub shortened_head : Option PlaylistKind → ℕ → ℕ → Playlist → Playlist
 shortened_head kind n marks list = record {
   version = list.version;
@@ -41,7 +41,7 @@ shortened_head kind n marks list = record {
   ended = list.ended;
 }
 
--- a segment of the live line that can be written, and its lines
+-- a segment of the live line can be written: its length is below 2^53 microseconds, and its date has a text
 abbrev pub CanBeWritten : ResourceLayout → live_line.LiveSegment → Type 0
 CanBeWritten c x = ((live_media_segment c x).us < 2 ^ 53) × IsDate (live_media_segment c x).date
 
@@ -54,6 +54,7 @@ abbrev pub rest_of_list : Option Playlist → ℕ → List ℕ
 rest_of_list None k = []
 rest_of_list (Some list) k = text_of_lines (all_segment_lines (drop k list.segments) ++ end_lines list.ended)
 
+-- the rest of the text of a state's served playlist after its head and its first k segments
 abbrev pub rest_of_live_list : MediaUris → State → ℕ → ℕ → List ℕ
 rest_of_live_list uris s rendition k = rest_of_list (served_list_of uris s rendition) k
 
@@ -62,14 +63,16 @@ abbrev pub ListHasSegments : Option Playlist → ℕ → Type 0
 ListHasSegments None k = ⊥
 ListHasSegments (Some list) k = k ≤ length list.segments
 
+-- a state's live playlist has at least k segments
 abbrev pub HasSegments : State → ℕ → ℕ → Type 0
 HasSegments s rendition k = ListHasSegments (live_list_of s rendition) k
 
--- all segments of a playlist, or at least the requested number
+-- k segments are all of a playlist, or at least the requested number
 abbrev pub ListReaches : Option Playlist → ℕ → ℕ → Type 0
 ListReaches None stop k = ⊥
 ListReaches (Some list) stop k = (stop ≤ k) ⊎ (length list.segments ≤ k)
 
+-- k segments are all of a state's live playlist, or at least the requested number
 abbrev pub ReachesStop : State → ℕ → ℕ → ℕ → Type 0
 ReachesStop s rendition stop k = ListReaches (live_list_of s rendition) stop k
 
@@ -77,5 +80,6 @@ ReachesStop s rendition stop k = ListReaches (live_list_of s rendition) stop k
 abbrev pub full_text : Inside → List ℕ
 full_text t = t.text.items ++ rest_of_live_list t.uris t.snapshot.value t.rendition t.written
 
+-- the writer has written no more segments than its live playlist has
 abbrev pub IsSoundWriter : Inside → Type 0
 IsSoundWriter t = HasSegments t.snapshot.value t.rendition t.written

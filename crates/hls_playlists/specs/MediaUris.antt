@@ -23,7 +23,7 @@ served_list_of Ranges s r = based_list_of s r
 served_list_of Paths s r = path_list_of s r
 served_list_of PathsAbove s r = option_map (list_by_paths (run_above s.config.base) r) (based_list_of s r)
 
--- of the process's own playlist: the one that is served
+-- the playlist that is served for the process's own one
 abbrev pub served_list : MediaUris → BaseData → ℕ → Playlist → Playlist
 served_list Ranges base r list = joined_list (offsets_from base r) list
 served_list Paths base r list = list_by_paths (run_text base.run) r (joined_list (offsets_from base r) list)
@@ -41,24 +41,24 @@ served_map Ranges base r own = own
 served_map Paths base r own = Some (init_in (media_folder (run_text base.run) r))
 served_map PathsAbove base r own = Some (init_in (media_folder (run_above base) r))
 
--- the segment with a media sequence number
+-- the segment with a media sequence number, as it is served
 abbrev pub served_segment : MediaUris → BaseData → ℕ → ℕ → MediaSegment → MediaSegment
 served_segment Ranges base r number x = joined_segment (offsets_from base r) number x
 served_segment Paths base r number x = segment_in (media_folder (run_text base.run) r) (joined_segment (offsets_from base r) number x)
 served_segment PathsAbove base r number x = segment_in (media_folder (run_above base) r) (joined_segment (offsets_from base r) number x)
 
--- those from a media sequence number on
+-- segments from a media sequence number on, as they are served
 abbrev pub served_segments : MediaUris → BaseData → ℕ → ℕ → List MediaSegment → List MediaSegment
 served_segments Ranges base r number xs = joined_segments (offsets_from base r) number xs
 served_segments Paths base r number xs = map (segment_in (media_folder (run_text base.run) r)) (joined_segments (offsets_from base r) number xs)
 served_segments PathsAbove base r number xs = map (segment_in (media_folder (run_above base) r)) (joined_segments (offsets_from base r) number xs)
 
--- a segment's range is that of a recording
+-- a segment has a range, which ends at byte 4 * 10^12 at the latest
 abbrev pub HasRange : Option ByteRange → Type 0
 HasRange None = ⊥
 HasRange (Some range) = range.offset + range.length ≤ 4000000000000
 
--- .. and so is that of a segment that counts from a base
+-- a segment's range ends before 2^64, if it has one
 abbrev pub HasSmallRange : Option ByteRange → Type 0
 HasSmallRange None = ⊤
 HasSmallRange (Some range) = range.offset + range.length < 2 ^ 64

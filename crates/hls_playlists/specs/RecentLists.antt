@@ -11,7 +11,7 @@ use Rattle.hls_playlists_laws.specs.LaterList.{IsLater}
 use Rattle.hls_playlists.specs.declared.media_uris.MediaUris.TheVariants.{Paths}
 use Rattle.hls_playlists.specs.ShortLists.{shortened_list_of}
 
--- without the first n segments that many microseconds are shown in rendition 0, and three target durations in each
+-- without the first n segments, the given number of microseconds is shown in rendition 0, and three target durations in each
 abbrev pub shows_enough : ℕ → Live → ℕ → Bool
 shows_enough us live n =
     nat_le us (remaining_length 0 (segments_of live) n) && is_long live.line_goal (renditions_of live.progress.line.segment_start) (segments_of live) n

@@ -19,7 +19,7 @@ abbrev pub ListsSinceGrow : Type 0
 ListsSinceGrow = (us : ℕ) (a b : State) (r : ℕ) (earlier : Playlist) → IsState a → Follows a b → list_since us a r ≡ Some earlier →
     ((later : Playlist) × (list_since us b r ≡ Some later) × HasGrown earlier later) ⊎ (start_in us (line b) ≡ Removed)
 
--- and then it stays so
+-- once the first segment of a playlist since a time was removed, it stays removed in each later state
 abbrev pub RemovedListsStayRemoved : Type 0
 RemovedListsStayRemoved = (us : ℕ) (a b c : State) (r : ℕ) (earlier : Playlist) → IsState a → Follows a b → Follows b c → list_since us a r ≡ Some earlier →
     start_in us (line b) ≡ Removed → start_in us (line c) ≡ Removed

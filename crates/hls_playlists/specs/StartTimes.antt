@@ -23,7 +23,7 @@ abbrev pub is_ending_after : ℕ → Option live_line.LiveSegment → Bool
 is_ending_after us None = false
 is_ending_after us (Some x) = nat_lt us (time_of x.to)
 
--- .. the last one
+-- the last of some segments ends after the time
 abbrev pub ends_after : ℕ → List live_line.LiveSegment → Bool
 ends_after us segments = is_ending_after us (slice_get segments (length segments - 1))
 
@@ -36,17 +36,18 @@ abbrev pub is_begun_by : ℕ → Option Place → Bool
 is_begun_by us None = false
 is_begun_by us (Some front) = nat_le (time_of front) us
 
--- by how many kept segments started
+-- where a time is in a live line, by how many of its kept segments started
 abbrev pub start_by : ℕ → Live → ℕ → StartTime
 start_by us live count =
     if nat_lt 0 count then (if is_known us live count then Kept (count - 1) else After)
     else (if nat_lt 0 live.removed then Removed
     else (if is_begun_by us (front_of live) then After else Before))
 
+-- where a time in microseconds is in a live line
 abbrev pub start_in : ℕ → Live → StartTime
 start_in us live = start_by us live (count_started us (segments_of live))
 
--- a kept segment is one of these
+-- if a time is in a kept segment, that is one of the first `count`
 abbrev pub IsWithin : StartTime → ℕ → Type 0
 IsWithin (Kept n) count = n < count
 IsWithin start count = ⊤
@@ -56,5 +57,6 @@ abbrev pub list_since_start : StartTime → State → ℕ → Option Playlist
 list_since_start (Kept n) s r = shortened_list_of PathsAbove (Some Event) n s r
 list_since_start start s r = None
 
+-- the playlist of a rendition that starts at a time in microseconds and only grows; none unless a kept segment has that time
 abbrev pub list_since : ℕ → State → ℕ → Option Playlist
 list_since us s r = list_since_start (start_in us (line s)) s r

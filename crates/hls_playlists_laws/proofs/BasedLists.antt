@@ -39,17 +39,21 @@ range-none (Some range) = ap (λ (n : ℕ). Some (record { length = range.length
 moved-none : (x : MediaSegment) → shifted_segment 0 x ≡ x
 moved-none x = ap (λ (o : Option ByteRange). record { mark = x.mark; date = x.date; us = x.us; range = o; uri = x.uri }) (range-none x.range)
 
+-- a segment without a mark stays the same if it is shifted by no bytes and gets no mark
 marked-none : (x : MediaSegment) → x.mark ≡ false → with_mark false (shifted_segment 0 x) ≡ x
 marked-none x none =
     ap (λ (b : Bool). with_mark b (shifted_segment 0 x)) (sym none) ∙ moved-none x
 
+-- the offsets of a channel that continues no other one: nothing precedes it, and its first segment has no mark
 abbrev no-offsets : Offsets
 no-offsets = record { segments = 0; marks = 0; marked = false; bytes = 0 }
 
+-- with no offsets a joined segment is the segment itself, if the channel's very first segment has no mark
 one-none : (number : ℕ) (x : MediaSegment) → (number ≡ 0 → x.mark ≡ false) → joined_segment no-offsets number x ≡ x
 one-none zero x first = marked-none x (first refl)
 one-none (suc number) x first = moved-none x
 
+-- the same for segments numbered from `number` on
 all-none : (number : ℕ) (xs : List MediaSegment) → ((x : MediaSegment) → number ≡ 0 → slice_get xs 0 ≡ Some x → x.mark ≡ false) →
     joined_segments no-offsets number xs ≡ xs
 all-none number [] first = refl
@@ -57,10 +61,12 @@ all-none number (x ∷ xs) first =
     ap (λ (y : MediaSegment). y ∷ joined_segments no-offsets (suc number) xs) (one-none number x (λ none. first x none refl))
     ∙ ap (λ (ys : List MediaSegment). x ∷ ys) (all-none (suc number) xs (λ y none at. absurd (omega (arith, none))))
 
+-- with no offsets no mark is left uncounted
 uncounted-none : (number : ℕ) → marks_uncounted no-offsets number ≡ 0
 uncounted-none zero = refl
 uncounted-none (suc number) = refl
 
+-- with no offsets a joined playlist is the playlist itself, if the channel's very first segment has no mark
 joined-none : (q : Playlist) → ((x : MediaSegment) → q.media_sequence ≡ 0 → slice_get q.segments 0 ≡ Some x → x.mark ≡ false) → joined_list no-offsets q ≡ q
 joined-none q first =
     let sequence : 0 + q.media_sequence ≡ q.media_sequence = zero-add q.media_sequence in
@@ -78,14 +84,17 @@ joined-none q first =
       ended = q.ended;
     }
 
+-- a list of zeros has 0 at each index, and 0 is the default past its end
 zeros-at : (n r : ℕ) → ◌≡◌ {A = ℕ} (slice_index_or (replicate n 0) r 0) 0
 zeros-at zero r = refl
 zeros-at (suc n) zero = refl
 zeros-at (suc n) (suc r) = zeros-at n r
 
+-- no base has no offsets in any rendition
 no-bytes : (r : ℕ) → offsets_from no_base r ≡ no-offsets
 no-bytes r = ap (λ (n : ℕ). record { segments = 0; marks = 0; marked = false; bytes = n }) (zeros-at 16 r)
 
+-- joining a state's live playlist by the offsets of no base doesn't change it
 none-by : (s : State) (r : ℕ) → IsState s → (o : Option Playlist) → live_list_of s r ≡ o → option_map (joined_list (offsets_from no_base r)) o ≡ o
 none-by s r state None is = refl
 none-by s r state (Some q) is =
@@ -111,7 +120,7 @@ based-lists-follow base a b r earlier state follows is =
       subst (λ (x : Playlist). IsLater x (joined_list o next.0)) earlier_list.2 next.2,
     )
 
--- the second's playlist with the base of the cut is the first's, once both are as far
+-- for a lane of each: once both are as far, the second's playlist, joined by the cut's offsets, is the first's
 same-over : (a b : State) (n : ℕ) (cut : Place) (r : ℕ) (l m : Lane) → IsState a → IsState b → IsHandedOver a b n cut →
     slice_get (channel a).lanes r ≡ Some l → slice_get (channel b).lanes r ≡ Some m →
     AreAsFar n (live_list_over a.config.epoch r l (line a)) (live_list_over b.config.epoch r m (line b)) →
@@ -153,6 +162,7 @@ same-over a b n cut r l m state_a state_b over at also far =
       ended = over_too k;
     }
 
+-- once both have removed and listed as many segments, the second's playlist, joined by the cut's offsets, equals the first's
 pub based-same : (a b : State) (n : ℕ) (cut : Place) (r : ℕ) (l : Lane) (p q : Playlist) → IsState a → IsState b →
     IsHandedOver a b n cut → slice_get (channel a).lanes r ≡ Some l → live_list_of a r ≡ Some p → live_list_of b r ≡ Some q →
     AreAsFar n p q → joined_list (offsets_of a n cut r l) q ≡ p
@@ -166,20 +176,23 @@ based-same a b n cut r l p q state_a state_b over at p-is q-is far =
     (subst (λ (z : Playlist). AreAsFar n p z) (sym y.is) far) in
     ap (joined_list o) (sym y.is) ∙ (same-over a b n cut r l y.lane state_a state_b over at y.at far_here ∙ is_p)
 
--- a base after a base
+-- a range that is shifted twice is shifted by the sum
 range-twice : (m n : ℕ) (o : Option ByteRange) → option_map (shifted_range m) (option_map (shifted_range n) o) ≡ option_map (shifted_range (m + n)) o
 range-twice m n None = refl
 range-twice m n (Some range) =
     ap (λ (k : ℕ). Some (record { length = range.length; offset = k })) (sym (add_assoc m n range.offset))
 
+-- a segment that is shifted twice and gets a mark is the one that is shifted by the sum and gets that mark
 named-twice : (m n : ℕ) (mark : Bool) (x : MediaSegment) →
     with_mark mark (shifted_segment m (shifted_segment n x)) ≡ with_mark mark (shifted_segment (m + n) x)
 named-twice m n mark x =
     ap (λ (o : Option ByteRange). record { mark = mark; date = x.date; us = x.us; range = o; uri = x.uri }) (range-twice m n x.range)
 
+-- the offsets with these segments, marks, mark at the cut, and bytes
 abbrev offsets : ℕ → ℕ → Bool → ℕ → Offsets
 offsets n marks marked bytes = record { segments = n; marks = marks; marked = marked; bytes = bytes }
 
+-- joining a segment by a cut's offsets and then by a base's is joining it once by the cut's offsets after the base
 one-twice : (base : Offsets) (n marks : ℕ) (marked : Bool) (bytes number : ℕ) (x : MediaSegment) →
     joined_segment base (n + number) (joined_segment (offsets n marks marked bytes) number x) ≡ joined_segment (offsets_after base (offsets n marks marked bytes)) number x
 one-twice base zero marks marked bytes zero x = named-twice base.bytes bytes base.marked x
@@ -190,6 +203,7 @@ one-twice base n marks marked bytes (suc number) x =
     let at : n + suc number ≡ suc (n + number) = omega arith in
     ap (λ (k : ℕ). joined_segment base k (shifted_segment bytes x)) at ∙ named-twice base.bytes bytes x.mark x
 
+-- the same for segments numbered from `number` on
 all-twice : (base o : Offsets) (number : ℕ) (xs : List MediaSegment) →
     joined_segments base (o.segments + number) (joined_segments o number xs) ≡ joined_segments (offsets_after base o) number xs
 all-twice base o number [] = refl
@@ -200,7 +214,7 @@ all-twice base o number (x ∷ xs) =
     ap (λ (y : MediaSegment). y ∷ joined_segments base (suc (o.segments + number)) (joined_segments o (suc number) xs)) one
     ∙ ap (λ (ys : List MediaSegment). joined_segment (offsets_after base o) number x ∷ ys) rest
 
--- the marks that aren't counted
+-- the marks that a cut and then a base leave uncounted are those of the base up to the cut, and then those of both together
 marks-twice : (base : Offsets) (n marks : ℕ) (marked : Bool) (bytes number : ℕ) → (n ≡ 0 → marked ≡ false) →
     marks_uncounted (offsets n marks marked bytes) number + marks_uncounted base (n + number)
     ≡ marks_uncounted base n + marks_uncounted (offsets_after base (offsets n marks marked bytes)) number
@@ -218,6 +232,7 @@ marks-twice base (suc n) marks marked bytes (suc number) first =
     ap (marks_uncounted base) (let same : suc n + suc number ≡ suc (n + suc number) = omega arith in same) in
     omega (arith, upto)
 
+-- joining a playlist by a cut's offsets and then by a base's is joining it once by both, if a cut at the line's front has no mark
 pub joined-twice : (base o : Offsets) (q : Playlist) → (o.segments ≡ 0 → o.marked ≡ false) → joined_list base (joined_list o q) ≡ joined_list (offsets_after base o) q
 joined-twice base o q first =
     let sequence : base.segments + (o.segments + q.media_sequence) ≡ base.segments + o.segments + q.media_sequence = omega arith in
@@ -242,7 +257,7 @@ cut-first : (a : State) (n : ℕ) (cut : Place) (r : ℕ) (l : Lane) → n ≡ 0
 cut-first a n cut r l none =
     ap (λ (k : ℕ). is_first_marked (drop k (closed a))) none ∙ first-of (line_goal_of a.config) (places a)
 
--- .. after a base of the first's
+-- once both are as far, the second's playlist, joined by the cut's offsets after any base, is the first's, joined by that base
 pub lists-same : (base : Offsets) (a b : State) (n : ℕ) (cut : Place) (r : ℕ) (l : Lane) (p q : Playlist) → IsState a → IsState b →
     IsHandedOver a b n cut → slice_get (channel a).lanes r ≡ Some l → live_list_of a r ≡ Some p → live_list_of b r ≡ Some q →
     AreAsFar n p q → joined_list (offsets_after base (offsets_of a n cut r l)) q ≡ joined_list base p
@@ -251,7 +266,7 @@ lists-same base a b n cut r l p q state_a state_b over at p-is q-is far =
     sym (joined-twice base o q (cut-first a n cut r l))
     ∙ ap (joined_list base) (based-same a b n cut r l p q state_a state_b over at p-is q-is far)
 
--- and where the second takes over earlier, its playlist is valid as a later one
+-- if the second's playlist may take over, it is, joined by the cut's offsets after any base, a later one of the first's, joined by that base
 pub lists-join : (base : Offsets) (a b : State) (n : ℕ) (cut : Place) (r : ℕ) (l : Lane) (p q : Playlist) → IsState a → IsState b →
     IsHandedOver a b n cut → slice_get (channel a).lanes r ≡ Some l → live_list_of a r ≡ Some p → live_list_of b r ≡ Some q →
     MayTakeOver n p q → IsLater (joined_list base p) (joined_list (offsets_after base (offsets_of a n cut r l)) q)
@@ -269,7 +284,7 @@ lists-join base a b n cut r l p q state_a state_b over at p-is q-is may =
     subst (λ (z : Playlist). IsLater (joined_list base p) z) (joined-twice base o q (cut-first a n cut r l))
     (stays-later base p (joined_list o q) later first)
 
--- the playlists of a channel that continues another one at its cut
+-- a channel that takes over another one at a cut has that one's playlists, by ranges and by paths, once both are as far
 pub taken-over-equal : (a b : State) (n : ℕ) (cut : Place) (r : ℕ) (l : Lane) (p q : Playlist) → IsState a → IsState b →
     TakesOver a b n cut r l → slice_get (channel a).lanes r ≡ Some l → live_list_of a r ≡ Some p → live_list_of b r ≡ Some q →
     AreAsFar n p q → (based_list_of b r ≡ based_list_of a r) × (path_list_of b r ≡ path_list_of a r)

@@ -25,6 +25,7 @@ places_small renditions [] p r all = omega arith
 places_small renditions (place ∷ places) zero r all = spots_small place r (All-head (IsPlaceOf renditions) place places all).spots
 places_small renditions (place ∷ places) (suc p) r all = places_small renditions places p r (All-tail (IsPlaceOf renditions) place places all)
 
+-- each place of a table starts before 2^53 microseconds in each rendition
 pub start_small : (t : Table) (p r : ℕ) → IsTable t → (spot_in (place_at t.places p) r).start < 2 ^ 53
 start_small t p r valid = places_small t.renditions t.places p r valid.places
 
@@ -41,7 +42,7 @@ date_good (Some (pos n)) us good small =
     let again : (n + us) / 1000 * 1000 / 1000 ≡ (n + us) / 1000 = mul-div_left ((n + us) / 1000) (omega arith) in
     ((omega (arith, ints), omega (arith, ints, good.1)), ap (λ (k : ℕ). pos (k * 1000)) (sym again))
 
--- the segment from place p, and those after it
+-- segment k from place p along a plan has the date of its start, the plan's place k
 dated_from : (cut : ResourceLayout) (places : List (List Spot)) (p : ℕ) (mark : Bool) (rest : List ℕ) (k q : ℕ) (segment : MediaSegment) →
     slice_get (p ∷ rest) k ≡ Some q → slice_get (plan_segments_from cut places p mark rest) k ≡ Some segment →
     segment.date ≡ date_at cut.epoch (spot_in (place_at places q) cut.rendition).start
@@ -53,12 +54,14 @@ dated_from cut places p mark (next ∷ rest) zero q segment at there =
 dated_from cut places p mark (next ∷ rest) (suc k) q segment at there =
     dated_from cut places next (is_break (place_at places next)) rest k q segment at there
 
+-- with an epoch, the date of each segment of a plan is the instant of its start
 pub segments_are_dated : SegmentsAreDated
 segments_are_dated places [] cut epoch k p segment known at there = cc
 segments_are_dated places (first ∷ rest) cut epoch k p segment known at there =
     dated_from cut places first false rest k p segment at there
     ∙ ap (λ (e : Option ℤ). date_at e (spot_in (place_at places p) cut.rendition).start) known
 
+-- without an epoch, no segment from place p along a plan has a date
 undated_from : (cut : ResourceLayout) (places : List (List Spot)) (p : ℕ) (mark : Bool) (rest : List ℕ) → cut.epoch ≡ None →
     All (λ segment. segment.date ≡ None) (plan_segments_from cut places p mark rest)
 undated_from cut places p mark [] unknown = All-nil (λ segment. segment.date ≡ None)
@@ -68,6 +71,7 @@ undated_from cut places p mark (next ∷ rest) unknown =
     (ap (λ (e : Option ℤ). date_at e (spot_in (place_at places p) cut.rendition).start) unknown)
     (undated_from cut places next (is_break (place_at places next)) rest unknown)
 
+-- without an epoch, no segment of a plan has a date
 pub segments_are_undated : SegmentsAreUndated
 segments_are_undated places [] cut unknown = All-nil (λ segment. segment.date ≡ None)
 segments_are_undated places (first ∷ rest) cut unknown = undated_from cut places first false rest unknown

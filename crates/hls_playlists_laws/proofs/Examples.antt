@@ -7,6 +7,7 @@ use Rattle.hls_m3u8.specs.Lines.{header_line}
 use Rattle.hls_m3u8.specs.Masters.{master_lines}
 use Rattle.hls_playlists_laws.specs.Masters.{master_below}
 
+-- a rendition with this name, video or audio, this bandwidth, and no tolerance
 abbrev rendition : List ℕ → Bool → ℕ → Rendition
 rendition name video bandwidth = record { name = name; video = video; bandwidth = bandwidth; tolerance = 0 }
 

@@ -34,9 +34,11 @@ use Rattle.hls_playlists_laws.proofs.RisingLines.{ArePlacesRising, IsRisingFrom,
 abbrev pub unit_at : ℕ → Place → ℕ
 unit_at r p = (spot_in p.spots r).fragment
 
+-- no condition on a place
 abbrev pub AnyPlace : Place → Type 0
 AnyPlace p = Unit {0}
 
+-- in rendition r, the line's segments, open place and best place are in order, from unit `floor` on up to the last of the places
 abbrev IsAbove : ℕ → ℕ → List Place → LineProgress → Type 0
 IsAbove r floor places t = IsRisingLine AnyPlace (unit_at r) floor (last_of (unit_at r) 0 places) t
 
@@ -58,10 +60,12 @@ places-none : (rs : List Rendition) (r : ℕ) (l : Lane) → slice_get (map fres
 places-none [] r l at = absurd (cc)
 places-none (x ∷ rs) r l at = refl
 
+-- a line without places is above unit 0
 fresh-above : (line_goal : LineGoal) (r : ℕ) → IsAbove r 0 [] (live_of line_goal [] 0).progress
 fresh-above line_goal r =
     subst (λ (t : LineProgress). IsRisingFrom AnyPlace (unit_at r) 0 0 [] None t.best) (sym (progress-none line_goal 0 no_progress)) refl
 
+-- in the first state of a configuration no unit that the line names is trimmed
 keeps-first : (config : ConfigData) → KeepsUnits (first_state config)
 unfolding channel_from
 keeps-first config r l at =
@@ -70,7 +74,7 @@ keeps-first config r l at =
     subst (λ (x : Lane). IsAbove r x.floor (places (first_state config)) (line (first_state config)).progress) was.2
     (subst (λ (ps : List Place). IsAbove r 0 ps (live_of (line_goal_of config) ps 0).progress) (sym none) (fresh-above (line_goal_of config) r))
 
--- when places are added
+-- if no segment is removed, a line above a floor stays above it in a state that follows
 keeps-grown : (a b : State) → IsState a → Follows a b → (channel b).removed ≡ (channel a).removed → (r floor : ℕ) (l : Lane) →
     slice_get (channel b).lanes r ≡ Some l → IsAbove r floor (places a) (line a).progress → IsAbove r floor (places b) (line b).progress
 keeps-grown a b state follows removed r floor l at above =
@@ -91,6 +95,7 @@ record WasLane (ch : Channel) (r : ℕ) (l : Lane) : Type 0 where
   at : slice_get ch.lanes r ≡ Some lane
   floor : l.floor ≡ lane.floor
 
+-- replacing a lane by one with the same floor changes no rendition's floor
 was-set : (ch : Channel) (q : ℕ) (old new : Lane) (r : ℕ) (l : Lane) → slice_get ch.lanes q ≡ Some old → new.floor ≡ old.floor →
     slice_get (slice_set ch.lanes q new) r ≡ Some l → WasLane ch r l
 was-set ch q old new r l there floor at = elim (at_set ch.lanes q new r l at) [
@@ -102,19 +107,21 @@ was-set ch q old new r l there floor at = elim (at_set ch.lanes q new r l at) [
   | inr other ↦ record { lane = l; at = other.1; floor = refl }
 ]
 
+-- an event that replaces a lane by one with the same floor changes no rendition's floor
 was-lane : (s : State) (by : ℕ) (event : Event) (q : ℕ) (old new : Lane) → channel (state_with_entry s by event) ≡ record { lanes = slice_set (channel s).lanes q new; removed = (channel s).removed } →
     slice_get (channel s).lanes q ≡ Some old → new.floor ≡ old.floor → (r : ℕ) (l : Lane) → slice_get (channel (state_with_entry s by event)).lanes r ≡ Some l →
     WasLane (channel s) r l
 was-lane s by event q old new is there floor r l at =
     was-set (channel s) q old new r l there floor (ap (λ (ch : Channel). slice_get ch.lanes r) (sym is) ∙ at)
 
+-- if neither the removed segments nor a rendition's floor change, the line stays above the floor in a state that follows
 keeps-was : (s b : State) → IsState s → Follows s b → (channel b).removed ≡ (channel s).removed → (r : ℕ) (l : Lane) → slice_get (channel b).lanes r ≡ Some l →
     WasLane (channel s) r l → KeepsUnits s → IsAbove r l.floor (places b) (line b).progress
 keeps-was s b state follows removed r l at was keeps =
     subst (λ (n : ℕ). IsAbove r n (places b) (line b).progress) (sym was.floor)
     (keeps-grown s b state follows removed r was.lane.floor l at (keeps r was.lane was.at))
 
--- a floor that isn't after the front
+-- a line that rises is above each floor that is not after its front
 raised : (r low floor h : ℕ) (segments : List LiveSegment) (segment_start : Option SegmentStart) (best : Option Place) →
     IsRisingFrom AnyPlace (unit_at r) low h segments segment_start best → floor ≤ trim_limit (front_place segments segment_start) r →
     IsRisingFrom AnyPlace (unit_at r) floor h segments segment_start best
@@ -129,15 +136,18 @@ passed : (b : Bool) (o : _) → (if b then Refused TrimTooFar else o) ≡ New �
 passed true o is = absurd (cc)
 passed false o is = refl
 
+-- a trim of a known rendition that is New has a floor that is at most the limit
 far-by : (b : Bool) (limit floor entries : ℕ) → (if b then Repeated else (if nat_lt limit floor then Refused TrimTooFar else new_or_full entries)) ≡ New →
     floor ≤ limit
 far-by true limit floor entries is = absurd (cc)
 far-by false limit floor entries is = ltb-false limit floor (passed (nat_lt limit floor) (new_or_full entries) is)
 
+-- the same for a rendition that may be unknown
 not-far : (o : Option Lane) (limit floor entries : ℕ) → trim o limit floor entries ≡ New → floor ≤ limit
 not-far None limit floor entries is = absurd (cc)
 not-far (Some l) limit floor entries is = far-by (nat_le floor l.floor) limit floor entries is
 
+-- a trim that is New trims no unit that the line names
 keeps-trim : (s : State) (by q floor : ℕ) → IsState s → IsFitting s (Trim q floor) → outcome_of s (Trim q floor) ≡ New → KeepsUnits s →
     KeepsUnits (state_with_entry s by (Trim q floor))
 keeps-trim s by q floor state fits new keeps r l at =
@@ -162,6 +172,7 @@ keeps-trim s by q floor state fits new keeps r l at =
       | inr other ↦ keeps-grown s b state follows removed r l.floor l at (keeps r l other.1)
     ]
 
+-- a slide leaves the line above each rendition's floor
 keeps-slide : (s : State) (by count : ℕ) → KeepsUnits s → KeepsUnits (state_with_entry s by (Slide count))
 keeps-slide s by count keeps r l at =
     let b : State = state_with_entry s by (Slide count) in
@@ -172,6 +183,7 @@ keeps-slide s by count keeps r l at =
     subst (λ (live : Live). IsAbove r l.floor (places b) live.progress) (sym (line_slides s by count))
     (subst (λ (ps : List Place). IsAbove r l.floor ps (without_front count (line s)).progress) (sym same) slid)
 
+-- no event that is New trims a unit that the line names
 keeps-new : (s : State) (by : ℕ) (event : Event) → IsState s → IsFitting s event → outcome_of s event ≡ New → KeepsUnits s → KeepsUnits (state_with_entry s by event)
 keeps-new s by (Begin q init bytes) state fits new keeps r l at =
     let event : Event = Begin q init bytes in
@@ -197,8 +209,10 @@ keeps-new s by (Finish q) state fits new keeps r l at =
 keeps-new s by (Slide count) state fits new keeps r l at = keeps-slide s by count keeps r l at
 keeps-new s by (Trim q floor) state fits new keeps r l at = keeps-trim s by q floor state fits new keeps r l at
 
+-- a state's stored bytes don't matter for which units its line keeps
 keeps-same : (s : State) (bytes : List HeldBytes) → KeepsUnits (record { config = s.config; log = s.log; bytes = bytes }) → KeepsUnits s
 keeps-same s bytes keeps = keeps
 
+-- in each state and rendition the line begins at the first kept unit, or after it
 pub keeps-units : (s : State) → IsState s → KeepsUnits s
 keeps-units = every_state KeepsUnits keeps-same keeps-first keeps-new

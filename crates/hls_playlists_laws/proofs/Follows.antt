@@ -43,31 +43,35 @@ after-rises (Finished r) ch = omega arith
 after-rises (Slid n) ch = omega arith
 after-rises (Trimmed r floor) ch = omega arith
 
+-- the entries of a log never decrease a channel's number of removed segments
 rises-from : (ch : Channel) (log : List Entry) → ch.removed ≤ (channel_from ch log).removed
 unfolding channel_from
 rises-from ch [] = omega arith
 rises-from ch (e ∷ es) = omega (arith, after-rises e.event ch, rises-from (channel_after e.event ch) es)
 
+-- a state that follows another one has removed at least as many segments
 pub removed-rises : (a b : State) → Follows a b → (channel a).removed ≤ (channel b).removed
 removed-rises a b follows =
     let c = continues_of a b follows in
     omega (arith, rises-from (channel a) c.rest, ap (λ (ch : Channel). ch.removed) (rest_channel a b c))
 
--- a rendition that has begun, with more units
+-- a lane with more units has the same resource, with these units appended
 pub cut-on : (early late : Option ℤ) (r : ℕ) (l m : Lane) (more : List Facts) → late ≡ early → m.size ≡ l.size → m.facts ≡ l.facts ++ more →
     IsCutOn (live_layout early r l) (live_layout late r m)
 cut-on early late r l m more epoch size facts =
     record { rendition = refl; uri = refl; init_length = size; begun = refl; first = refl; more = more; facts = facts; epoch = epoch }
 
+-- both ends of each closed segment of a state are among the rendition's units
 pub stands-among : (s : State) → IsState s → (r : ℕ) (l : Lane) → slice_get (channel s).lanes r ≡ Some l → All (StandsAmong r l.facts) (closed s)
 stands-among s state r l at k d h =
     let among = closed-among s state r l at k d h in
     record { from = omega (arith, among.rises, among.within); to = among.within }
 
--- what a list loses at the front and gains at the end
+-- the segments that the second state has removed and the first has not
 gone : State → State → List live_line.LiveSegment
 gone a b = take ((channel b).removed - (channel a).removed) (drop (channel a).removed (closed b))
 
+-- the first's listed segments and the appended ones are those that are gone and then the second's listed segments
 goes-on : (a b : State) → IsState a → Follows a b → (appended : List live_line.LiveSegment) → closed b ≡ closed a ++ appended →
     segments_of (line a) ++ appended ≡ gone a b ++ segments_of (line b)
 unfolding gone
@@ -80,6 +84,7 @@ goes-on a b state follows appended is =
     ∙ (sym (take-append-drop (rb - ra) (drop ra (closed b)))
     ∙ ap (λ (xs : List live_line.LiveSegment). gone a b ++ xs) (drop-drop (rb - ra) ra (closed b) ∙ ap (λ (n : ℕ). drop n (closed b)) number)))
 
+-- as many segments are gone as the second state has removed more than the first
 gone-count : (a b : State) → IsState b → Follows a b → length (gone a b) ≡ (channel b).removed - (channel a).removed
 unfolding gone
 gone-count a b state follows =
@@ -87,6 +92,7 @@ gone-count a b state follows =
     let rb : ℕ = (channel b).removed in
     length-take-le (rb - ra) (drop ra (closed b)) (omega (arith, removed-few b state, length-drop ra (closed b)))
 
+-- the marks that the second state has removed are those that the first has removed, and those of the segments that are gone
 marks-gone : (a b : State) → IsState a → Follows a b → (appended : List live_line.LiveSegment) → closed b ≡ closed a ++ appended →
     marks_in (channel b).removed (closed b) ≡ marks_in (channel a).removed (closed a) + count_by is_break (gone a b)
 unfolding gone
@@ -109,7 +115,7 @@ whole-stays a b state follows over =
     ap (λ (c : ConfigData). full_progress (line_goal_of c) (places b)) (continues_of a b follows).config
     ∙ ap (λ (xs : List Source). full_progress (line_goal_of a.config) (places_of xs)) (ended-stays a b state follows over)
 
--- the playlist of the same rendition in the state that follows
+-- for the lane of a rendition in both states: the live playlist of the state that follows is valid as a later one
 later-over : (a b : State) (r : ℕ) (l m : Lane) → IsState a → Follows a b → slice_get (channel a).lanes r ≡ Some l → slice_get (channel b).lanes r ≡ Some m →
     m.size ≡ l.size → (more : List Facts) → m.facts ≡ l.facts ++ more → IsLater (live_list_over a.config.epoch r l (line a)) (live_list_over b.config.epoch r m (line b))
 later-over a b r l m state follows at there size more facts =
@@ -156,6 +162,7 @@ later-over a b r l m state follows at there size more facts =
           ];
     }
 
+-- if a state has closed a segment, so has each state that follows
 closed-later : (a b : State) → IsState b → Follows a b → 0 < length (closed a) → has_closed_segment (line b) ≡ true
 closed-later a b state follows some =
     let on = closed-follow a b follows in
@@ -169,6 +176,7 @@ closed-later a b state follows some =
       length-drop (channel b).removed (closed b),
     ))
 
+-- in a state that follows one with a live playlist there is a playlist, which is valid as a later one
 pub live-lists-follow : (a b : State) (r : ℕ) (earlier : Playlist) → IsState a → Follows a b → live_list_of a r ≡ Some earlier →
     (later : Playlist) × (live_list_of b r ≡ Some later) × IsLater earlier later
 live-lists-follow a b r earlier state follows is =

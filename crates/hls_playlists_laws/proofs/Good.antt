@@ -15,6 +15,7 @@ use Rattle.hls_playlists_laws.specs.SegmentLaws.{end_fragment, SegmentFits, AreU
 use Rattle.hls_playlists_laws.proofs.Dates.{date_good, start_small}
 use Rattle.hls_playlists_laws.proofs.JoinedMedia.{fragment_at, fragments_rise}
 
+-- if each unit has bytes and there is a unit, the first n of them have bytes, where n is above 0
 some_taken : (n : ℕ) (facts : List Facts) → 0 < n → 0 < length facts → All (λ f. 0 < f.len) facts → 0 < sum_by len_of (take n facts)
 some_taken zero facts some long each = absurd (omega arith)
 some_taken (suc n) [] some long each = absurd (omega arith)
@@ -36,6 +37,7 @@ few_bytes facts a b =
     let part : sum_by len_of (take (b - a) (drop a facts)) ≤ sum_by len_of (drop a facts) = sum_by-take-le len_of (drop a facts) (b - a) in
     omega arith
 
+-- each segment from place p along a plan fits the target duration
 pub fits_from : (t : Table) (cut : ResourceLayout) (p : ℕ) (mark : Bool) (rest : List ℕ) → StepsAreAllowed t p rest → cut.rendition < t.renditions →
     All (SegmentFits t.goal.target) (plan_segments_from cut t.places p mark rest)
 fits_from t cut p mark [] leads within = All-nil (SegmentFits t.goal.target)
@@ -44,6 +46,7 @@ fits_from t cut p mark (q ∷ rest) leads within =
     ((leads.0.step cut.rendition within).fits)
     (fits_from t cut q (is_break (place_at t.places q)) rest leads.1 within)
 
+-- each segment from place p along a plan can be written, if the units have bytes, and not more than a recording may have
 pub good_from : (t : Table) (cut : ResourceLayout) (p : ℕ) (mark : Bool) (rest : List ℕ) → IsTable t → StepsAreAllowed t p rest → cut.rendition < t.renditions → AreUnits cut → IsEpoch cut.epoch →
     fragment_at t cut.rendition (last_place p rest) ≤ length cut.facts → All (IsSegment cut.uri) (plan_segments_from cut t.places p mark rest)
 good_from t cut p mark [] valid leads within units known over = All-nil (IsSegment cut.uri)
@@ -65,6 +68,7 @@ good_from t cut p mark (q ∷ rest) valid leads within units known over =
     one
     (good_from t cut q (is_break (place_at t.places q)) rest valid leads.1 within units known over)
 
+-- the segments of a table's plan fit the target duration and can be written
 pub segments_are_good : SegmentsAreGood
 segments_are_good t [] cut valid plan within units known over = absurd plan
 segments_are_good t (p ∷ rest) cut valid plan within units known over =

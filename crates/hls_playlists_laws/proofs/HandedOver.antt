@@ -25,6 +25,7 @@ use Rattle.hls_playlists_laws.specs.BasedLists.{based_list_of, list_from, offset
 use Rattle.hls_playlists_laws.specs.PathLists.{list_by_paths, path_list_of}
 use Rattle.hls_playlists_laws.proofs.PathLists.{mapped-some, named-agree}
 
+-- segment k of the joined segments is segment k of the given ones, joined under its number
 pub joined-at : (o : Offsets) (number : ℕ) (ys : List MediaSegment) (k : ℕ) (z : MediaSegment) → slice_get (joined_segments o number ys) k ≡ Some z →
     (y : MediaSegment) × (slice_get ys k ≡ Some y) × (joined_segment o (number + k) y ≡ z)
 joined-at o number [] k z at = absurd (cc)
@@ -37,6 +38,7 @@ joined-at o number (y ∷ ys) (suc k) z at =
     let next : number + suc k ≡ suc number + k = omega arith in
     (on.0, on.1, ap (λ (n : ℕ). joined_segment o n on.0) next ∙ on.2)
 
+-- for a lane of each: the live playlist of a channel agrees with the joined one of a channel that continues it at a cut
 agree-over : (a b : State) (n : ℕ) (cut : Place) (r : ℕ) (l m : Lane) → IsState a → IsState b → IsHandedOver a b n cut →
     slice_get (channel a).lanes r ≡ Some l → slice_get (channel b).lanes r ≡ Some m →
     AgreeOnOverlap (live_list_over a.config.epoch r l (line a)) (joined_list (offsets_of a n cut r l) (live_list_over b.config.epoch r m (line b)))
@@ -66,6 +68,7 @@ agree-over a b n cut r l m state_a state_b over at also =
           ∙ sym (marks-joined a b n cut r l state_a state_b over (omega (arith, begins, removed-few a state_a)));
     }
 
+-- a channel's live playlist agrees with that of a channel that continues it at a cut, joined by the cut's offsets
 pub agree-on : (a b : State) (n : ℕ) (cut : Place) (r : ℕ) (l : Lane) (p q : Playlist) → IsState a → IsState b →
     IsHandedOver a b n cut → slice_get (channel a).lanes r ≡ Some l → live_list_of a r ≡ Some p → live_list_of b r ≡ Some q →
     AgreeOnOverlap p (joined_list (offsets_of a n cut r l) q)
@@ -94,6 +97,7 @@ joined-agree o p q agree = record {
       omega (arith, agree.marks same, ap (marks_uncounted o) same);
 }
 
+-- path lists of two origins that have one base and are fed by the same encoders agree
 pub path-lists-agree : (a b : State) (r : ℕ) (p q : Playlist) → IsState a → IsState b → IngestSameUnits a b → b.config.base ≡ a.config.base →
     path_list_of a r ≡ Some p → path_list_of b r ≡ Some q → AgreeOnOverlap p q
 path-lists-agree a b r p q state_a state_b fed base p-is q-is =

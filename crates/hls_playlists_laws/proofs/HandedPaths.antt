@@ -38,6 +38,7 @@ some-by s state r l at (Some init) is = λ k d h.
     let was = (lanes_timed s state.legal r l at).were init is k f (slice_get-get_or l.facts k d h) in
     (units_are_bounded init was.bytes f was.is).some_bytes
 
+-- each unit of a rendition of a state has bytes
 each-some : (s : State) → IsState s → (r : ℕ) (l : Lane) → slice_get (channel s).lanes r ≡ Some l → All (λ f. 0 < f.len) l.facts
 each-some s state r l at = some-by s state r l at l.init refl
 
@@ -45,6 +46,7 @@ each-some s state r l at = some-by s state r l at l.init refl
 abbrev AreSameTo : ℕ → List Facts → List Facts → Type 0
 AreSameTo n xs ys = take n xs ≡ take n ys
 
+-- lists that are the same up to unit n are the same up to each earlier unit
 fewer-same : (n k : ℕ) (xs ys : List Facts) → k ≤ n → AreSameTo n xs ys → AreSameTo k xs ys
 fewer-same n zero xs ys few same = refl
 fewer-same zero (suc k) xs ys few same = absurd (omega (arith, few))
@@ -56,11 +58,12 @@ fewer-same (suc n) (suc k) (x ∷ xs) (y ∷ ys) few same =
     let rest : take n xs ≡ take n ys = ap (drop 1) same in
     ap (λ (z : Facts). z ∷ take k xs) here ∙ ap (λ (zs : List Facts). y ∷ zs) (fewer-same n k xs ys (omega (arith, few)) rest)
 
+-- lists that are the same up to unit n have the same facts for each unit before it
 same-fact : (n k : ℕ) (xs ys : List Facts) → k < n → AreSameTo n xs ys → fact_at xs k ≡ fact_at ys k
 same-fact n k xs ys few same =
     sym (get_or-take n xs k no_facts few) ∙ (ap (λ (l : List Facts). get_or l k no_facts) same ∙ get_or-take n ys k no_facts few)
 
--- a path names the same units in them
+-- a path that names units before n in one of two lists that are the same up to unit n names them in the other
 named-alike : (before target size : ℕ) (xs ys : List Facts) (first last m n : ℕ) → All (λ f. 0 < f.len) ys → n ≤ length ys → AreSameTo n xs ys →
     IsNamed before target size xs first last m n → IsNamed before target size ys first last m n
 named-alike before target size xs ys first last m n each few same named =
@@ -82,10 +85,11 @@ named-alike before target size xs ys first last m n each few same named =
           (sym (same-fact n m xs ys rises same)) ∙ named.may);
     }
 
--- the units from number u on
+-- the bytes of the first u + k units are those of the first u and those of the next k
 bytes-from : (facts : List Facts) (u k : ℕ) → total_bytes (take (u + k) facts) ≡ total_bytes (take u facts) + total_bytes (take k (drop u facts))
 bytes-from facts u k = ap total_bytes (take-add u k facts) ∙ sum_by-append len_of (take u facts) (take k (drop u facts))
 
+-- units of a recording that begins with unit u may be a segment exactly if the same units may, counted from the first one
 may-from : (target : ℕ) (facts : List Facts) (u m n : ℕ) → m < n → may_be_segment target (drop u facts) m n ≡ may_be_segment target facts (u + m) (u + n)
 may-from target facts u m n rises =
     let tests : nat_lt m n ≡ nat_lt (u + m) (u + n) = grind (arith) in
@@ -97,6 +101,7 @@ may-from target facts u m n rises =
     (get_or-drop u facts m no_facts)
     ∙ ap (λ (b : _). b && nat_le ((fact_at facts (u + n - 1)).end_us - (fact_at facts (u + m)).start_us) (longest_length_us target)) tests)
 
+-- if each unit has bytes and there is a unit, the first n of them have bytes, where n is above 0
 some-taken : (n : ℕ) (facts : List Facts) → 0 < n → 0 < length facts → All (λ f. 0 < f.len) facts → 0 < total_bytes (take n facts)
 some-taken zero facts some long each = absurd (omega (arith, some))
 some-taken (suc n) [] some long each = absurd (omega (arith, long))
@@ -104,7 +109,7 @@ some-taken (suc n) (f ∷ facts) some long each =
     let one : 0 < f.len = All-head (λ (g : Facts). 0 < g.len) f facts each in
     omega (arith, one, sum_by-cons len_of f (take n facts))
 
--- counted from unit u, and counted from the first one
+-- a path that names units u + m to u + n names units m to n of a recording that begins with unit u, if the bytes of earlier units precede it
 named-from : (before target size : ℕ) (facts : List Facts) (u first last m n : ℕ) → All (λ f. 0 < f.len) facts → u + n ≤ length facts →
     IsNamed before target size facts first last (u + m) (u + n) →
     IsNamed (before + total_bytes (take u facts)) target size (drop u facts) first last m n
@@ -128,6 +133,7 @@ named-from before target size facts u first last m n each few named =
       may = may-from target facts u m n (omega (arith, rises)) ∙ named.may;
     }
 
+-- a path that names units m to n of a recording that begins with unit u names units u + m to u + n, counted from the first one
 named-to : (before target size : ℕ) (facts : List Facts) (u first last m n : ℕ) → All (λ f. 0 < f.len) facts → u + n ≤ length facts →
     IsNamed (before + total_bytes (take u facts)) target size (drop u facts) first last m n →
     IsNamed before target size facts first last (u + m) (u + n)
@@ -159,11 +165,12 @@ same-to u l m (inl left) n few also =
 same-to u l m (inr right) n few also =
     sym (ap (take n) right.facts ∙ take-append-le n m.facts right.more also)
 
+-- init sections of both channels have the same size in a rendition
 size-same : (u : ℕ) (l m : Lane) → LaneBegins (lane_from u l) m ⊎ LaneBegins m (lane_from u l) → m.size ≡ l.size
 size-same u l m (inl left) = left.size
 size-same u l m (inr right) = sym right.size
 
--- a path of the second's, loaded from the first
+-- a path that names units in the second names them in the first, as far as that one has come, or they are trimmed
 pub named-there : (before : ℕ) (a b : State) (n : ℕ) (cut : Place) (r : ℕ) (l m : Lane) (first last i j : ℕ) → IsState a → IsState b → IsHandedOver a b n cut →
     slice_get (channel a).lanes r ≡ Some l → slice_get (channel b).lanes r ≡ Some m → unit_at cut r + j ≤ length l.facts →
     named_in (before + bytes_before cut r l) b.config.target m first last ≡ KeptUnits i j →
@@ -184,7 +191,7 @@ named-there before a b n cut r l m first last i j state_a state_b over at also f
     named-either before a.config.target l.size l.facts l.floor first last (u + i) (u + j)
     (named-to before a.config.target l.size l.facts u first last i j each few there)
 
--- a path of the first's from the cut on, loaded from the second
+-- a path that names units from the cut on in the first names them in the second, as far as that one has come, or they are trimmed
 pub named-here : (before : ℕ) (a b : State) (n : ℕ) (cut : Place) (r : ℕ) (l m : Lane) (first last i j : ℕ) → IsState a → IsState b → IsHandedOver a b n cut →
     slice_get (channel a).lanes r ≡ Some l → slice_get (channel b).lanes r ≡ Some m → j ≤ length m.facts →
     named_in before a.config.target l first last ≡ KeptUnits (unit_at cut r + i) (unit_at cut r + j) →
@@ -204,7 +211,7 @@ named-here before a b n cut r l m first last i j state_a state_b over at also fe
     (subst (λ (k : ℕ). IsNamed (before + bytes_before cut r l) a.config.target k m.facts first last i j) (sym (size-same u l m either)) there) in
     named-either (before + bytes_before cut r l) b.config.target m.size m.facts m.floor first last i j own
 
--- where both keep them, they have the same bytes
+-- units that both keep have the same bytes, if both have the same bytes under the number of each unit
 pub same-bytes-there : (u i j : ℕ) (l m : Lane) (h g : HeldBytes) → MatchesBytes l h → MatchesBytes m g → SameUnitsFrom u l m h g → i ≤ j →
     l.floor ≤ u + i → m.floor ≤ i → u + j ≤ length l.facts → j ≤ length m.facts → unit_bytes l h (u + i) (u + j) ≡ unit_bytes m g i j
 same-bytes-there u i j l m h g fits_l fits_m same rises low_l low_m few_l few_m =

@@ -37,6 +37,7 @@ config = record {
   base = no_base;
 }
 
+-- an init section with one track, of a million ticks a second
 abbrev init : InitData
 init = record { tracks = record no_track { scale = 1000000 } ∷ []; timing = 0 }
 
@@ -52,9 +53,11 @@ unit start len = record {
   len = len;
 }
 
+-- the log entry of that init section, which has 700 bytes
 abbrev begun : Entry
 begun = record { by = 0; event = Begun 0 init 700 }
 
+-- the log entry of an accepted unit
 abbrev accepted : Facts → Entry
 accepted facts = record { by = 0; event = Accepted 0 facts }
 
@@ -80,20 +83,24 @@ second = record {
 abbrev cut : Place
 cut = record { spots = record { fragment = 2; prev_end = 8000000; start = 9000000; run_in = 0; run_out = 1 } ∷ []; closing = false }
 
+-- the cut is one of the first's live line, after two segments
 is_cut : IsCutOf (line_goal_of config) (sources first) 2 cut
 unfolding channel_from line_within is_later_place is_allowed is_long_enough is_at_gap
 is_cut = record { within = omega arith; front = refl; not_ended = refl }
 
--- a rendition's units from the cut on are a prefix of the second's
+-- a lane that has begun, with these units
 abbrev lane_with : List Facts → Lane
 lane_with facts = record { init = Some init; size = 700; facts = facts; floor = 0; finished = false }
 
+-- the first's lane
 abbrev of_first : Lane
 of_first = lane_with (unit 0 100 ∷ unit 4000000 200 ∷ unit 9000000 300 ∷ unit 13000000 400 ∷ unit 17000000 500 ∷ [])
 
+-- the second's lane
 abbrev of_second : Lane
 of_second = lane_with (unit 9000000 300 ∷ unit 13000000 400 ∷ unit 17000000 500 ∷ unit 21000000 600 ∷ unit 25000000 700 ∷ unit 29000000 800 ∷ [])
 
+-- the first's units from the cut on are a prefix of the second's
 begins : (r : ℕ) (l m : Lane) → slice_get (channel first).lanes r ≡ Some l → slice_get (channel second).lanes r ≡ Some m → LaneBegins (lane_from (unit_at cut r) l) m
 unfolding channel_from
 begins zero l m here there =
@@ -102,6 +109,7 @@ begins zero l m here there =
     (record { init = refl; size = refl; more = unit 21000000 600 ∷ unit 25000000 700 ∷ unit 29000000 800 ∷ []; facts = refl; over = λ ended. cc }))
 begins (suc r) l m here there = cc
 
+-- the second continues the first at the cut
 is_handed_over : IsHandedOver first second 2 cut
 is_handed_over = record { config = refl; is_cut = is_cut; each = λ r l m here there. inl (begins r l m here there) }
 
@@ -119,18 +127,21 @@ abbrev segment : Bool → ℕ → ℕ → MediaSegment
 segment mark offset len =
     record { mark = mark; date = None; us = 4000000; range = Some (record { length = len; offset = offset }); uri = codes "/media/0.mp4" }
 
--- the first's playlist has a mark after the gap; the second's begins there, without one
+-- the first's playlist, with a mark after the gap
 abbrev first_list : Playlist
 first_list = live_list 6 0 0 (codes "/media/0.mp4") 700 (segment false 700 100 ∷ segment false 800 200 ∷ segment true 1000 300 ∷ segment false 1300 400 ∷ []) false
 
+-- the second's playlist, which begins after the gap, without a mark
 abbrev second_list : Playlist
 second_list = live_list 6 0 0 (codes "/media/0.mp4") 700 (segment false 700 300 ∷ segment false 1000 400 ∷ segment false 1400 500 ∷ segment false 1900 600
     ∷ segment false 2500 700 ∷ []) false
 
+-- that is the live playlist of the first
 is_first_list : live_list_of first 0 ≡ Some first_list
 unfolding channel_from line_within is_later_place is_allowed is_long_enough is_at_gap digits
 is_first_list = refl
 
+-- that is the live playlist of the second
 is_second_list : live_list_of second 0 ≡ Some second_list
 unfolding channel_from line_within is_later_place is_allowed is_long_enough is_at_gap digits
 is_second_list = refl

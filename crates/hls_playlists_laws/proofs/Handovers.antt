@@ -49,7 +49,7 @@ cut-long a state n cut is_cut =
     let count = (ordered.each stands.number no_place (slice_get_within (places a) stands.number cut stands.there)).place.count in
     ap (λ (p : Place). length p.spots) (sym same) ∙ count
 
--- renditions from the cut on, as the search for common places sees them
+-- the source of a rendition from a spot on is that of its lane from the spot's unit on
 since-is : (s : Source) (l : Lane) (cut : Spot) (n tolerance : ℕ) → cut.fragment ≡ n → IsOf s l tolerance → IsOf (source_since cut s) (lane_from n l) tolerance
 since-is s l cut n tolerance number is = record {
   facts = ap (λ (k : ℕ). drop k s.facts) number ∙ ap (drop n) is.facts;
@@ -57,6 +57,7 @@ since-is s l cut n tolerance number is = record {
   finished = is.finished;
 }
 
+-- the renditions of a channel that continues another one at a cut begin at that cut of the other's
 begun-at : (a b : State) → IsState a → (n : ℕ) (cut : Place) → IsHandedOver a b n cut → IsBegunAt cut (sources a) (sources b)
 begun-at a b state n cut over =
     let long = cut-long a state n cut over.is_cut in
@@ -78,7 +79,7 @@ begun-at a b state n cut over =
           ]);
     }
 
--- the bytes of units, counted from the cut on
+-- units have the same bytes if they are counted from the cut
 bytes-after_cut : (facts : List Facts) (cut from to : ℕ) → cut ≤ from → from ≤ to →
     bytes_between (drop cut facts) (from - cut) (to - cut) ≡ bytes_between facts from to
 bytes-after_cut facts cut from to after rises =
@@ -88,6 +89,7 @@ bytes-after_cut facts cut from to after rises =
     ∙ (ap (λ (l : List Facts). total_bytes (take (to - from) l)) (drop-drop (from - cut) cut facts)
     ∙ ap (λ (k : ℕ). total_bytes (take (to - from) (drop k facts))) upto)
 
+-- the bytes before a unit after the cut are those before the cut and those from there on
 offset-after_cut : (facts : List Facts) (cut from : ℕ) → cut ≤ from →
     bytes_between facts 0 from ≡ total_bytes (take cut facts) + bytes_between (drop cut facts) 0 (from - cut)
 offset-after_cut facts cut from after =
@@ -108,15 +110,17 @@ same-bytes n l m (inr right) from to rises within also =
     sym (ap (λ (fs : List Facts). bytes_between fs from to) right.facts
     ∙ bytes-stay m.facts right.more from to (omega (arith, rises, also)) also)
 
+-- init sections of both channels have the same size in a rendition
 same-size : (n : ℕ) (l m : Lane) → LaneBegins (lane_from n l) m ⊎ LaneBegins m (lane_from n l) → m.size ≡ l.size
 same-size n l m either = sizes-same (lane_from n l) m either
 
+-- counted from an earlier unit, a spot has the same end of the unit before it
 end-since : (c t : Spot) → c.fragment < t.fragment → (spot_since c t).prev_end ≡ t.prev_end
 end-since c t h =
     let apart : (t.fragment == c.fragment) ≡ false = grind (arith) in
     cond-false (t.fragment == c.fragment) t.start t.prev_end apart
 
--- the ends of a segment, counted from the cut
+-- a segment that is counted from the cut begins and ends at its places, counted from the cut
 counted-from : (cut : Place) (n : ℕ) (x : live_line.LiveSegment) → (segment_counted_from cut n x).from ≡ place_since cut.spots x.from
 counted-from cut zero x = refl
 counted-from cut (suc n) x = refl
@@ -125,6 +129,7 @@ counted-to : (cut : Place) (n : ℕ) (x : live_line.LiveSegment) → (segment_co
 counted-to cut zero x = refl
 counted-to cut (suc n) x = refl
 
+-- a segment's mark is the same counted from the cut, unless it is the first after the cut
 counted-mark : (cut : Place) (n : ℕ) (x : live_line.LiveSegment) → 1 ≤ n → (segment_counted_from cut n x).mark ≡ x.mark
 counted-mark cut zero x some = absurd (omega (arith, some))
 counted-mark cut (suc n) x some = refl
@@ -135,6 +140,7 @@ record AreSameIn (cut : Place) (r : ℕ) (u v : live_line.LiveSegment) : Type 0 
   to : spot_in v.to.spots r ≡ spot_since (spot_in cut.spots r) (spot_in u.to.spots r)
   after_cut : unit_at cut r ≤ (spot_in u.from.spots r).fragment
 
+-- segments that are the same after the cut have, counted from it, the same spots at their ends in each rendition
 same-in : (cut : Place) (r n : ℕ) (u v : live_line.LiveSegment) → r < length cut.spots → IsSameFrom cut n u v → AreSameIn cut r u v
 same-in cut r n u v h is = record {
   from = ap (λ (x : live_line.LiveSegment). spot_in x.from.spots r) is.same
@@ -144,12 +150,14 @@ same-in cut r n u v h is = record {
   after_cut = (from_at cut.spots u.from.spots r is.after_cut.0 h).fragment;
 }
 
+-- two ranges after init sections are equal if the sizes of the init sections, the bytes before and the lengths are
 same-range : (size n f : ℕ) (size_too m g : ℕ) → size ≡ size_too → n ≡ m → f ≡ g →
     let one : Option ByteRange = Some (record { length = n; offset = size + f }) in
     let two : Option ByteRange = Some (record { length = m; offset = size_too + g }) in
     one ≡ two
 same-range size n f size_too m g e1 e2 e3 = rw (e1, e2, e3) refl
 
+-- a segment after the cut is the same in both playlists, with its range shifted by the bytes before the cut
 is-moved : (epoch : Option ℤ) (epoch_too : Option ℤ) (cut : Place) (r : ℕ) (l m : Lane) (u v : live_line.LiveSegment) (target : ℕ) → epoch_too ≡ epoch →
     LaneBegins (lane_from (unit_at cut r) l) m ⊎ LaneBegins m (lane_from (unit_at cut r) l) → AreSameIn cut r u v →
     IsAmong target r l u → StandsAmong r m.facts v →
@@ -183,10 +191,11 @@ is-moved epoch epoch_too cut r l m u v target same_epoch either same among stand
       there = ap (λ (k : ℕ). Some (record { length = bytes_between l.facts from to; offset = k })) (omega (arith, offset));
     }
 
--- the numbers of the first's segments, counted from the cut on
+-- a closed segment is found under each equal number
 closed-number : (s : State) (n m : ℕ) (x : live_line.LiveSegment) → n ≡ m → slice_get (closed s) n ≡ Some x → slice_get (closed s) m ≡ Some x
 closed-number s n m x same at = ap (slice_get (closed s)) (sym same) ∙ at
 
+-- the marks of the first's first n + k segments are those up to the cut and those of the second's first k segments
 pub marks-on : (a b : State) (n k : ℕ) (cut : Place) → IsState a → IsState b → IsHandedOver a b n cut →
     n + k ≤ length (closed a) → k ≤ length (closed b) → 1 ≤ k → marks_in (n + k) (closed a) ≡ marks_to a n + marks_in k (closed b)
 marks-on a b n zero cut state_a state_b over few also some = absurd (omega (arith, some))
@@ -197,6 +206,7 @@ marks-on a b n (suc k) cut state_a state_b over few also some =
     (begun-at a b state_a n cut over) k (omega (arith, few)) (omega (arith, also, ap length is_b)) in
     on ∙ ap (λ (l : List live_line.LiveSegment). marks_to a n + marks_in (suc k) l) (sym is_b)
 
+-- for a lane of each: the second's live playlist continues the first's at the cut
 pub on-over : (a b : State) (n : ℕ) (cut : Place) (r : ℕ) (l m : Lane) → IsState a → IsState b → IsHandedOver a b n cut →
     slice_get (channel a).lanes r ≡ Some l → slice_get (channel b).lanes r ≡ Some m →
     ContinuesAt n (marks_to a n) (bytes_before cut r l) (live_list_over a.config.epoch r l (line a)) (live_list_over b.config.epoch r m (line b))
@@ -234,6 +244,7 @@ on-over a b n cut r l m state_a state_b over at also =
           ∙ marks-on a b n (channel b).removed cut state_a state_b over (omega (arith, number, removed-few a state_a)) (removed-few b state_b) some;
     }
 
+-- the live playlist of a channel that continues another one at a cut continues that one's
 pub live-lists-continuation : (a b : State) (n : ℕ) (cut : Place) (r : ℕ) (l : Lane) (p q : Playlist) → IsState a → IsState b →
     IsHandedOver a b n cut → slice_get (channel a).lanes r ≡ Some l → live_list_of a r ≡ Some p → live_list_of b r ≡ Some q →
     ContinuesAt n (marks_to a n) (bytes_before cut r l) p q

@@ -45,14 +45,16 @@ pub none-left : {A : Type 0} (xs : List A) → length xs ≡ 0 → xs ≡ []
 none-left [] is = refl
 none-left (x ∷ xs) is = absurd (omega (arith, is))
 
+-- a live playlist lists the closed segments that were not removed
 pub listed-count : (s : State) (r : ℕ) (l : Lane) → length (live_list_over s.config.epoch r l (line s)).segments ≡ length (drop (channel s).removed (closed s))
 listed-count s r l = length-map (drop (channel s).removed (closed s)) (live_media_segment (live_layout s.config.epoch r l))
 
--- playlists are joined segment by segment
+-- joining keeps the number of segments
 pub joined-length : (o : Offsets) (number : ℕ) (xs : List MediaSegment) → length (joined_segments o number xs) ≡ length xs
 joined-length o number [] = refl
 joined-length o number (x ∷ xs) = ap suc (joined-length o (suc number) xs)
 
+-- joining changes neither the length of a segment nor the sum of their lengths
 joined-us : (o : Offsets) (number : ℕ) (x : MediaSegment) → length_us (joined_segment o number x) ≡ length_us x
 joined-us o zero x = refl
 joined-us o (suc number) x = refl
@@ -77,7 +79,7 @@ begins-with o number (x ∷ xs) (y ∷ ys) few same =
     same (suc i) u v u-at v-at ∙ ap (λ (k : ℕ). joined_segment o k v) (omega arith)) in
     (on.0, ap (λ (z : MediaSegment). z ∷ joined_segments o (suc number) ys) (sym here) ∙ ap (λ (zs : List MediaSegment). x ∷ zs) on.1)
 
--- a segment that is the same except its range, shifted by the constant
+-- a segment of the first's playlist is the second's with its range shifted by the constant, and with the first's mark
 moved-is : (bytes : ℕ) (x y : MediaSegment) (mark : Bool) → IsShifted bytes x y → mark ≡ x.mark →
     x ≡ record { mark = mark; date = y.date; us = y.us; range = option_map (shifted_range bytes) y.range; uri = y.uri }
 moved-is bytes x y mark is same =
@@ -85,35 +87,39 @@ moved-is bytes x y mark is same =
     is.there ∙ ap (option_map (shifted_range bytes)) (sym is.here) in
     λ k. record { mark = sym same k; date = sym is.date k; us = sym is.us k; range = range k; uri = sym is.uri k }
 
+-- a segment of the first's playlist is the second's, joined, if they differ only by the shift and by the mark of the second's first one
 pub joined-is : (o : Offsets) (number : ℕ) (x y : MediaSegment) → IsShifted o.bytes x y → (1 ≤ number → y.mark ≡ x.mark) → (number ≡ 0 → o.marked ≡ x.mark) →
     x ≡ joined_segment o number y
 joined-is o zero x y is mark first = moved-is o.bytes x y o.marked is (first refl)
 joined-is o (suc number) x y is mark first = moved-is o.bytes x y y.mark is (mark (omega arith))
 
--- marks at the front
+-- segments begin with a mark exactly if the first one has a mark
 pub first-at : (xs : List live_line.LiveSegment) (x : live_line.LiveSegment) → slice_get xs 0 ≡ Some x → is_first_marked xs ≡ x.mark
 first-at [] x at = cc
 first-at (y ∷ xs) x at =
     let same : y ≡ x = cc in
     ap (λ (z : live_line.LiveSegment). z.mark) same
 
+-- the first segment has one mark or none
 one-mark : (xs : List live_line.LiveSegment) → marks_in 1 xs ≡ cond (is_first_marked xs) 1 0
 one-mark [] = refl
 one-mark (x ∷ xs) =
     let more = sum_by-cons (λ (z : live_line.LiveSegment). cond (is_break z) 1 0) x [] in
     omega (arith, more)
 
+-- once the second's first segment is gone, exactly its mark in the first's playlist isn't counted
 marks-uncounted : (o : Offsets) (number : ℕ) → 1 ≤ number → marks_uncounted o number ≡ cond o.marked 1 0
 marks-uncounted o zero some = absurd (omega (arith, some))
 marks-uncounted o (suc number) some = refl
 
+-- the marks up to a cut are those before it, and that of the segment that begins there
 marks-with : (a : State) (n : ℕ) →
     marks_to a n ≡ marks_in n (segments_over (line_goal_of a.config) (sources a)) + cond (is_first_marked (drop n (segments_over (line_goal_of a.config) (sources a)))) 1 0
 marks-with a n =
     let all : List live_line.LiveSegment = segments_over (line_goal_of a.config) (sources a) in
     marks-add n 1 all ∙ ap (λ (k : ℕ). marks_in n all + k) (one-mark (drop n all))
 
--- marks up to where the joined list begins
+-- the marks that a joined playlist counts as removed are those of the first's line up to where it begins
 pub marks-joined : (a b : State) (n : ℕ) (cut : Place) (r : ℕ) (l : Lane) → IsState a → IsState b → IsHandedOver a b n cut →
     n + (channel b).removed ≤ length (closed a) →
     (offsets_of a n cut r l).marks + marks_in (channel b).removed (closed b) + marks_uncounted (offsets_of a n cut r l) (channel b).removed
@@ -133,13 +139,14 @@ marks-joined a b n cut r l state_a state_b over few =
           omega (arith, on, marks-with a n, marks-uncounted o rb some)
     ]
 
--- the marks of the segments that are removed from the front of a playlist
+-- the first d segments of a live playlist have as many marks as the line's first d kept ones
 marks-front : (s : State) (r : ℕ) (l : Lane) (d : ℕ) →
     count_by is_marked (take d (live_list_over s.config.epoch r l (line s)).segments) ≡ marks_in d (drop (channel s).removed (closed s))
 marks-front s r l d =
     let cut = live_layout s.config.epoch r l in
     ap (count_by is_marked) (take-map d (live_media_segment cut) (drop (channel s).removed (closed s))) ∙ marks-listed cut (take d (drop (channel s).removed (closed s)))
 
+-- for a lane of each: if the second's live playlist may take over, it is, joined, valid as a later one of the first's
 join-over : (a b : State) (n : ℕ) (cut : Place) (r : ℕ) (l m : Lane) → IsState a → IsState b → IsHandedOver a b n cut →
     slice_get (channel a).lanes r ≡ Some l → slice_get (channel b).lanes r ≡ Some m →
     MayTakeOver n (live_list_over a.config.epoch r l (line a)) (live_list_over b.config.epoch r m (line b)) →
@@ -207,6 +214,7 @@ join-over a b n cut r l m state_a state_b over at also may =
           omega (arith, holds, joined-lasts o rb q.segments);
     }
 
+-- if the second's live playlist may take over, it is, joined by the cut's offsets, valid as a later one of the first's
 pub live-lists-join : (a b : State) (n : ℕ) (cut : Place) (r : ℕ) (l : Lane) (p q : Playlist) → IsState a → IsState b →
     IsHandedOver a b n cut → slice_get (channel a).lanes r ≡ Some l → live_list_of a r ≡ Some p → live_list_of b r ≡ Some q →
     MayTakeOver n p q → IsLater p (joined_list (offsets_of a n cut r l) q)
@@ -235,10 +243,12 @@ unfolding line_within
 first-within line_goal zero o rest = refl
 first-within line_goal (suc most) o rest = first-by (line_within line_goal most) (first-within line_goal most) o (ahead_of line_goal o.place rest)
 
+-- a line's first segment has no mark
 pub first-of : (line_goal : LineGoal) (progress : List Place) → is_first_marked (line_of line_goal progress).segments ≡ false
 first-of line_goal [] = refl
 first-of line_goal (o ∷ rest) = first-within line_goal (suc (length rest)) (start_at o) rest
 
+-- the first segment of a live playlist has no mark, if no segment was removed
 pub first-listed : (s : State) (r : ℕ) (l : Lane) (x : MediaSegment) → (channel s).removed ≡ 0 →
     slice_get (live_list_over s.config.epoch r l (line s)).segments 0 ≡ Some x → x.mark ≡ false
 first-listed s r l x none at =
@@ -248,7 +258,7 @@ first-listed s r l x none at =
     ∙ (sym (first-at (closed s) u.0 front)
     ∙ first-of (line_goal_of s.config) (places s))
 
--- an extended playlist, joined
+-- two lists of segments, the second after the first, are joined each under its own numbers
 joined-append : (o : Offsets) (number : ℕ) (xs ys : List MediaSegment) →
     joined_segments o number (xs ++ ys) ≡ joined_segments o number xs ++ joined_segments o (number + length xs) ys
 joined-append o number [] ys = ap (λ (k : ℕ). joined_segments o k ys) (omega arith)
@@ -256,6 +266,7 @@ joined-append o number (x ∷ xs) ys =
     ap (λ (zs : List MediaSegment). joined_segment o number x ∷ zs) (joined-append o (suc number) xs ys
     ∙ ap (λ (k : ℕ). joined_segments o (suc number) xs ++ joined_segments o k ys) (omega arith))
 
+-- joining changes no marks of segments other than the channel's very first one
 joined-marks : (o : Offsets) (number : ℕ) (xs : List MediaSegment) → count_by is_marked (joined_segments o (suc number) xs) ≡ count_by is_marked xs
 joined-marks o number [] = refl
 joined-marks o number (x ∷ xs) =
@@ -263,7 +274,7 @@ joined-marks o number (x ∷ xs) =
     let two = sum_by-cons (λ (y : MediaSegment). cond (is_marked y) 1 0) x xs in
     omega (arith, one, two, joined-marks o (suc number) xs)
 
--- the marks of removed segments that the second doesn't count
+-- the marks of removed segments and those uncounted after them are those uncounted before and those of these segments, joined
 uncounted-on : (o : Offsets) (number : ℕ) (evicted : List MediaSegment) →
     ((x : MediaSegment) → number ≡ 0 → slice_get evicted 0 ≡ Some x → x.mark ≡ false) →
     count_by is_marked evicted + marks_uncounted o (number + length evicted)
@@ -286,6 +297,8 @@ uncounted-on o zero (x ∷ rest) first =
 no-segments : (o : Offsets) (number : ℕ) (xs : List MediaSegment) → joined_segments o number xs ≢ [] → xs ≢ []
 no-segments o number xs some none = some (ap (joined_segments o number) none)
 
+-- a playlist that is valid as a later one is so after both are joined by the same offsets, if the channel's very first segment
+-- has no mark
 pub stays-later : (o : Offsets) (p q : Playlist) → (later : IsLater p q) →
     ((x : MediaSegment) → p.media_sequence ≡ 0 → slice_get later.evicted 0 ≡ Some x → x.mark ≡ false) → IsLater (joined_list o p) (joined_list o q)
 stays-later o p q later first =
@@ -322,6 +335,7 @@ evicted-first [] appended evicted ys x some same at = absurd (omega (arith, some
 evicted-first (z ∷ xs) appended [] ys x some same at = cc
 evicted-first (z ∷ xs) appended (y ∷ evicted) ys x some same at = ap (λ (zs : List MediaSegment). slice_get zs 0) same ∙ at
 
+-- joined by any offsets, the live playlist of a state that follows is valid as a later one
 pub live-lists-stay_joined : (a b : State) (o : Offsets) (r : ℕ) (earlier : Playlist) → IsState a → Follows a b →
     live_list_of a r ≡ Some earlier → (later : Playlist) × (live_list_of b r ≡ Some later) × IsLater (joined_list o earlier) (joined_list o later)
 live-lists-stay_joined a b o r earlier state follows is =

@@ -9,6 +9,7 @@ use Rattle.hls_playlists_laws.specs.Segments.{ResourceLayout, is_break, plan_seg
 use Rattle.hls_playlists_laws.specs.SegmentLaws.{end_fragment, SegmentsTileTheUnits}
 use Rattle.hls_playlists_laws.proofs.Ranges.{bytes_are, units_join, taken, drop_drop}
 
+-- the number of the fragment at place p of a table in rendition r
 abbrev pub fragment_at : Table → ℕ → ℕ → ℕ
 fragment_at t r p = (spot_in (place_at t.places p) r).fragment
 
@@ -37,7 +38,7 @@ range_is head floor units first a b e n m low start up within is_n is_m =
     let one : units_between floor units a b ≡ take d (drop i us) = ap (take d) later in
     rw (is_n, is_m, one, whole) (taken head us i d x)
 
--- from place p along the rest of a plan
+-- the media of the segments from place p along a plan, joined, are the units from there to the plan's last place
 pub joined_from : (t : Table) (cut : ResourceLayout) (head : List ℕ) (floor : ℕ) (units : List (List ℕ)) (e p : ℕ) (mark : Bool) (rest : List ℕ) →
     StepsAreAllowed t p rest → cut.rendition < t.renditions → length head ≡ cut.init_length → floor ≤ cut.first →
     cut.first ≤ fragment_at t cut.rendition p → fragment_at t cut.rendition (last_place p rest) ≤ e → HaveLengths cut.facts floor units →
@@ -65,6 +66,7 @@ joined_from t cut head floor units e p mark (q ∷ rest) leads within size low s
     ∙ ap (λ ys. concat (units_between floor units a b) ++ ys) others
     ∙ units_join floor units a b c (omega arith) (omega arith) later
 
+-- the bytes of a plan's segments, joined, are the units of the programme, each exactly once
 pub media_are_the_units : SegmentsTileTheUnits
 media_are_the_units t [] cut head floor units plan within first size low lens = absurd plan
 media_are_the_units t (p ∷ rest) cut head floor units plan within first size low lens =

@@ -20,7 +20,7 @@ use Rattle.hls_playlists_laws.specs.PathLaws.{NamesOrTrimmed}
 use Rattle.hls_playlists_laws.proofs.UnitSearch.{found-in_more, is-found}
 use Rattle.hls_playlists_laws.proofs.NamedUnits.{Below, IsNamed, IsTrimmed, Precedes, is-named, is-trimmed, named-either, trimmed-named}
 
--- a unit of a run of kept ones
+-- unit i of the run of kept units from number m on is unit m + i
 pub unit-at : (floor m n i : ℕ) (units : List (List ℕ)) (d : List ℕ) → floor ≤ m → i < n - m → n ≤ floor + length units →
     slice_get units (m + i - floor) ≡ Some (get_or (units_between floor units m n) i d)
 unit-at floor m n i units d low within few =
@@ -31,10 +31,12 @@ unit-at floor m n i units d low within few =
     ∙ (get_or-drop (m - floor) units i d ∙ ap (λ (k : ℕ). get_or units k d) (sym at)) in
     slice_get-get_or units (m + i - floor) d inside ∙ ap (λ (x : List ℕ). Some x) (sym here)
 
+-- kept units from number m to the one before n are n - m units
 pub run-length : (floor m n : ℕ) (units : List (List ℕ)) → floor ≤ m → m ≤ n → n ≤ floor + length units → length (units_between floor units m n) ≡ n - m
 run-length floor m n units low rises few =
     length-take-le (n - m) (drop (m - floor) units) (omega (arith, length-drop (m - floor) units, low, rises, few))
 
+-- recordings whose common kept units have the same bytes have the same units from number m to the one before n, if both keep them
 same-run : (floor_a floor_b m n : ℕ) (xs ys : List (List ℕ)) → floor_a ≤ m → floor_b ≤ m → m ≤ n → n ≤ floor_a + length xs → n ≤ floor_b + length ys →
     SameUnits floor_a floor_b xs ys → units_between floor_a xs m n ≡ units_between floor_b ys m n
 same-run floor_a floor_b m n xs ys low_a low_b rises few_a few_b same =
@@ -54,6 +56,7 @@ init-some l h fits some (Some init) is = (init, is)
 pub fact-stays : (facts more : List Facts) (k : ℕ) → k < length facts → fact_at (facts ++ more) k ≡ fact_at facts k
 fact-stays facts more k few = get_or_append_left facts more no_facts k few
 
+-- more units don't change whether earlier ones may be a segment
 pub may-stays : (target : ℕ) (facts more : List Facts) (m n : ℕ) → m < length facts → n ≤ length facts → 0 < n →
     may_be_segment target (facts ++ more) m n ≡ may_be_segment target facts m n
 may-stays target facts more m n few few_too some =
@@ -78,13 +81,14 @@ named-on before target l k more first last m n size facts named =
     subst (λ (x : ℕ). IsNamed before target x k.facts first last m n) (sym size)
     (subst (λ (x : List Facts). IsNamed before target l.size x first last m n) (sym facts) here)
 
--- a lane in a later state
+-- a lane in a later state: its init section has the same size, units may follow, and its floor is not lower
 record IsLater (l k : Lane) : Type 0 where
   size : k.size ≡ l.size
   more : List Facts
   facts : k.facts ≡ l.facts ++ more
   floor : l.floor ≤ k.floor
 
+-- in a state that follows, a lane with an init section has the same size of it, perhaps more units, and no lower floor
 lane-later : (a b : State) (r : ℕ) (l k : Lane) → IsState a → Follows a b → slice_get (channel a).lanes r ≡ Some l →
     slice_get (channel b).lanes r ≡ Some k → (init : InitData) → l.init ≡ Some init → IsLater l k
 lane-later a b r l k state follows at_l at_k init is =
@@ -97,7 +101,7 @@ lane-later a b r l k state follows at_l at_k init is =
       floor = omega (arith, grown.grows.floor, ap (λ (x : Lane). x.floor) is_k);
     }
 
--- a named unit is there, so the rendition has begun
+-- a path that passes the tests names at least one unit, and all of them are there
 named-some : (before target : ℕ) (l : Lane) (first last m n : ℕ) → IsNamed before target l.size l.facts first last m n →
     (m < n) × (n ≤ length l.facts)
 named-some before target l first last m n named =
@@ -105,6 +109,7 @@ named-some before target l first last m n named =
     let parts = and_parts (nat_lt m n) _ named.may in
     (ltb-true m n parts.0, omega (arith, end.is, end.within))
 
+-- a path that names kept units names the same units with the same bytes in each later state, or they are trimmed
 pub paths-never-change : (before : ℕ) (a b : State) (r : ℕ) (l k : Lane) (h g : HeldBytes) (first last m n : ℕ) → IsState a → Follows a b →
     slice_get (channel a).lanes r ≡ Some l → slice_get a.bytes r ≡ Some h → slice_get (channel b).lanes r ≡ Some k → slice_get b.bytes r ≡ Some g →
     named_in before a.config.target l first last ≡ KeptUnits m n →
@@ -133,6 +138,7 @@ paths-never-change before a b r l k h g first last m n state follows at_l at_h a
           (omega (arith, fits_a.kept, some.1)) (omega (arith, fits_b.kept, more, some.1)) units)),
     )
 
+-- what is trimmed for one of the two causes is trimmed in each later state
 trimmed-by : (before : ℕ) (a b : State) (r : ℕ) (l k : Lane) (init : InitData) (first last : ℕ) → IsState a → Follows a b →
     slice_get (channel a).lanes r ≡ Some l → slice_get (channel b).lanes r ≡ Some k → l.init ≡ Some init →
     IsTrimmed before a.config.target l.size l.facts l.floor first last → named_in before a.config.target k first last ≡ TrimmedUnits
@@ -145,6 +151,7 @@ trimmed-by before a b r l k init first last state follows at_l at_k begun (Below
     trimmed-named before a.config.target k.size k.facts k.floor first last m n
     (named-on before a.config.target l k later.more first last m n later.size later.facts named) (omega (arith, gone, later.floor))
 
+-- a path that names trimmed units of a rendition with an init section names trimmed ones in each later state
 pub trimmed-stay : (before : ℕ) (a b : State) (r : ℕ) (l k : Lane) (init : InitData) (first last : ℕ) → IsState a → Follows a b →
     slice_get (channel a).lanes r ≡ Some l → slice_get (channel b).lanes r ≡ Some k → l.init ≡ Some init →
     named_in before a.config.target l first last ≡ TrimmedUnits → named_in before a.config.target k first last ≡ TrimmedUnits

@@ -1,3 +1,5 @@
+-- The lemmas of this crate, on live playlists and path lists: segments and dates, states that follow each other, handovers between origins, and
+-- the units that paths name.
 mod Cited
 mod Ranges
 mod JoinedMedia

@@ -40,6 +40,7 @@ pub record IsCutOn (early late : ResourceLayout) : Type 0 where
   pub facts : late.facts ≡ early.facts ++ more
   pub epoch : late.epoch ≡ early.epoch
 
+-- more units don't change the playlist entry of a segment whose ends are among the earlier ones
 pub listed-stays : (early late : ResourceLayout) (x : live_line.LiveSegment) → IsCutOn early late → StandsAmong early.rendition early.facts x →
     live_media_segment late x ≡ live_media_segment early x
 listed-stays early late x on stands =
@@ -56,6 +57,7 @@ listed-stays early late x on stands =
     let same : live_media_segment now x ≡ live_media_segment was x = rw (lengths, offsets) refl in
     ap (λ (c : ResourceLayout). live_media_segment c x) late_is ∙ (same ∙ ap (λ (c : ResourceLayout). live_media_segment c x) early_is)
 
+-- the same for a list of segments
 pub all-stay : (early late : ResourceLayout) (xs : List live_line.LiveSegment) → IsCutOn early late → All (StandsAmong early.rendition early.facts) xs →
     map (live_media_segment late) xs ≡ map (live_media_segment early) xs
 all-stay early late [] on all = refl
@@ -63,7 +65,7 @@ all-stay early late (x ∷ xs) on all =
     ap (λ (y : MediaSegment). y ∷ map (live_media_segment late) xs) (listed-stays early late x on (All-head (StandsAmong early.rendition early.facts) x xs all))
     ∙ ap (λ (ys : List MediaSegment). live_media_segment early x ∷ ys) (all-stay early late xs on (All-tail (StandsAmong early.rendition early.facts) x xs all))
 
--- the playlist has the marks and the lengths of the line
+-- the playlist's segments have as many marks as the line's
 pub marks-listed : (cut : ResourceLayout) (xs : List live_line.LiveSegment) → count_by is_marked (map (live_media_segment cut) xs) ≡ count_by is_break xs
 marks-listed cut [] = refl
 marks-listed cut (x ∷ xs) =
@@ -71,6 +73,7 @@ marks-listed cut (x ∷ xs) =
     ∙ (ap (λ (n : ℕ). cond x.mark 1 0 + n) (marks-listed cut xs)
     ∙ sym (sum_by-cons (λ (y : live_line.LiveSegment). cond (is_break y) 1 0) x xs))
 
+-- the playlist's segments last, added up, as long as the line's in the rendition
 pub lengths-listed : (cut : ResourceLayout) (xs : List live_line.LiveSegment) → sum_by length_us (map (live_media_segment cut) xs) ≡ sum_by (length_in cut.rendition) xs
 lengths-listed cut [] = refl
 lengths-listed cut (x ∷ xs) =

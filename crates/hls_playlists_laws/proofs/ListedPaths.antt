@@ -46,7 +46,7 @@ use Rattle.hls_playlists_laws.proofs.RisingLines.{ArePlacesRising, IsRisingFrom,
 use Rattle.hls_playlists_laws.proofs.Floors.{AnyPlace, keeps-units, unit_at}
 use Rattle.hls_playlists_laws.proofs.PlaceSpots.{AreSpotsOf, IsSpotOf, places-of}
 
--- a segment of a rising line
+-- a segment of a rising line begins at `low` or after it, and P holds for its ends
 rises-at : (P : Place → Type 0) (f : Place → ℕ) (low h : ℕ) (segments : List LiveSegment) (segment_start : Option SegmentStart) (best : Option Place) →
     IsRisingFrom P f low h segments segment_start best → (k : ℕ) (x : LiveSegment) → slice_get segments k ≡ Some x → (low ≤ f x.from) × P x.from × P x.to
 rises-at P f low h [] None best is k x at = absurd (cc)
@@ -75,7 +75,7 @@ floor-below s state r l at k x there =
     (rises-at AnyPlace (unit_at r) l.floor _ (line s).progress.line.segments (line s).progress.line.segment_start (line s).progress.best
     (keeps-units s state r l at) k x kept).0
 
--- the bytes of units in two parts
+-- the bytes of the first n units are those of the first m and those from number m to the one before n
 bytes-add : (facts : List Facts) (m n : ℕ) → m ≤ n → total_bytes (take n facts) ≡ total_bytes (take m facts) + bytes_between facts m n
 bytes-add facts m n rises =
     let whole : n ≡ m + (n - m) = omega (arith, rises) in
@@ -87,12 +87,13 @@ bytes-first facts m =
     let none : m - 0 ≡ m = omega arith in
     ap (λ (k : ℕ). total_bytes (take k facts)) none
 
--- the bytes of units from number m to the one before n
+-- a range is the bytes of the units from number m to the one before n, and there are some
 record AreUnitsFrom (before : ℕ) (l : Lane) (m n : ℕ) (range : ByteRange) : Type 0 where
   offset : range.offset ≡ before + (l.size + bytes_between l.facts 0 m)
   len : range.length ≡ bytes_between l.facts m n
   some : 0 < range.length
 
+-- a range of the bytes of kept units that may be a segment names exactly these units
 names-units : (before target : ℕ) (l : Lane) (m n : ℕ) (range : ByteRange) → AreUnitsFrom before l m n range → All (λ f. 0 < f.len) l.facts → m < n →
     n ≤ length l.facts → may_be_segment target l.facts m n ≡ true → l.floor ≤ m →
     named_in before target l range.offset (range.offset + range.length - 1) ≡ KeptUnits m n
@@ -109,16 +110,18 @@ names-units before target l m n range units each rises within may kept =
       may = may;
     }) kept
 
--- what the base says of each rendition is small
+-- if each number of a list is at most a limit, so is the one at any index, or 0 past the end
 all-small : (limit : ℕ) (ns : List ℕ) (r : ℕ) → All (λ n. n ≤ limit) ns → slice_index_or ns r 0 ≤ limit
 all-small limit [] r each = omega arith
 all-small limit (n ∷ ns) zero each = All-head (λ (k : ℕ). k ≤ limit) n ns each
 all-small limit (n ∷ ns) (suc r) each = all-small limit ns r (All-tail (λ (k : ℕ). k ≤ limit) n ns each)
 
+-- a joined segment's range is shifted by the offsets' bytes
 joined-range : (o : Offsets) (number : ℕ) (x : MediaSegment) → (joined_segment o number x).range ≡ option_map (shifted_range o.bytes) x.range
 joined-range o zero x = refl
 joined-range o (suc number) x = refl
 
+-- a segment of a state's live playlist has, with its range counted from the base, a path of kept units
 kept-segment : (s : State) → IsState s → (r : ℕ) (l : Lane) → slice_get (channel s).lanes r ≡ Some l → (p : Playlist) → live_list_of s r ≡ Some p →
     (k : ℕ) (x : MediaSegment) → slice_get p.segments k ≡ Some x →
     IsKeptPath s r l (segment_path (run_text s.config.base.run) r (option_map (shifted_range (bytes_before_base s.config.base r)) x.range))
@@ -162,6 +165,7 @@ kept-segment s state r l at p p-is k x x-at =
           (floor-below s state r l at k seg u.1);
     }
 
+-- each path in a path list of a state is a path of kept units there
 pub listed-paths-are-kept : (s : State) (r : ℕ) (l : Lane) (q : Playlist) (k : ℕ) (y : MediaSegment) → IsState s → slice_get (channel s).lanes r ≡ Some l →
     path_list_of s r ≡ Some q → slice_get q.segments k ≡ Some y → IsKeptPath s r l y.uri
 listed-paths-are-kept s r l q k y state at q-is y-at =
@@ -180,7 +184,7 @@ listed-paths-are-kept s r l q k y state at q-is y-at =
     ap (λ (z : MediaSegment). z.uri) (sym x.2) ∙ ap (segment_path run r) range in
     subst (IsKeptPath s r l) (sym uri) kept
 
--- and the rendition has its init section
+-- a rendition with a path list has its init section
 pub listed-inits-are-there : (s : State) (r : ℕ) (l : Lane) (q : Playlist) → IsState s → slice_get (channel s).lanes r ≡ Some l →
     path_list_of s r ≡ Some q → (init : InitData) × (l.init ≡ Some init)
 listed-inits-are-there s r l q state at q-is =
@@ -190,7 +194,7 @@ listed-inits-are-there s r l q state at q-is =
     let begun = has-begun s state r l at on.some in
     (begun.init, begun.is)
 
--- a rendition with a path list
+-- a rendition with a path list has a lane
 pub listed-lane : (s : State) (r : ℕ) (q : Playlist) → IsState s → path_list_of s r ≡ Some q → (l : Lane) × (slice_get (channel s).lanes r ≡ Some l)
 listed-lane s r q state q-is =
     let based = mapped-some (list_by_paths (run_text s.config.base.run) r) (based_list_of s r) q q-is in

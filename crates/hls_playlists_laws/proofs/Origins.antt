@@ -28,10 +28,11 @@ use Rattle.hls_playlists_laws.proofs.Listed.{StandsAmong, listed-stays}
 use Rattle.hls_playlists_laws.proofs.Texts.{is-listed}
 use Rattle.hls_playlists_laws.proofs.Follows.{cut-on, stands-among}
 
--- renditions, as the search for common places sees them
+-- if one lane's units are a prefix of another's, its source may grow to the other's
 pub source-begins : (s t : Source) (l m : Lane) (tolerance : ℕ) → IsOf s l tolerance → IsOf t m tolerance → LaneBegins l m → SourceGrows s t
 source-begins s t l m tolerance is_l is_m begins = source_grown s t l m tolerance is_l is_m begins.more begins.facts begins.over
 
+-- in each rendition, one origin's units are a prefix of the other's
 alike-at : (a b : State) (r : ℕ) (l m : Lane) → without_base b.config ≡ without_base a.config → slice_get (channel a).lanes r ≡ Some l → slice_get (channel b).lanes r ≡ Some m →
     LaneBegins l m ⊎ LaneBegins m l →
     SourceGrows (source_at (sources a) r) (source_at (sources b) r) ⊎ SourceGrows (source_at (sources b) r) (source_at (sources a) r)
@@ -45,10 +46,12 @@ alike-at a b r l m config at also either =
       | inr right ↦ inr (source-begins (source_at (sources b) r) (source_at (sources a) r) m l tolerance is_m is_l right)
     ]
 
+-- states whose configurations differ at most in their bases have equally many lanes
 pub lanes-same : (a b : State) → without_base b.config ≡ without_base a.config → length (channel b).lanes ≡ length (channel a).lanes
 lanes-same a b config =
     lanes_count b.config b.log ∙ (ap (λ (c : ConfigData). length c.renditions) config ∙ sym (lanes_count a.config a.log))
 
+-- two origins that are fed by the same encoders share their history in all renditions
 are-alike : (a b : State) → IngestSameUnits a b → ShareHistory (sources a) (sources b)
 are-alike a b fed = record {
   same = sources_count b ∙ (lanes-same a b fed.config ∙ sym (sources_count a));
@@ -58,18 +61,20 @@ are-alike a b fed = record {
       alike-at a b r l.0 m.0 fed.config l.1 m.1 (fed.each r l.0 m.0 l.1 m.1);
 }
 
+-- a state's closed segments are those of its places by any configuration that differs at most in its base
 pub closed-at : (s : State) (c : ConfigData) (n : ℕ) (x : live_line.LiveSegment) → without_base s.config ≡ without_base c → slice_get (closed s) n ≡ Some x →
     slice_get (line_of (line_goal_of c) (places s)).segments n ≡ Some x
 closed-at s c n x config at =
     ap (λ (d : ConfigData). slice_get (line_of (line_goal_of d) (places s)).segments n) (sym config) ∙ at
 
--- a segment has the same entry in both playlists
+-- the ends of a closed segment are among the rendition's units
 pub stands-at : (s : State) → IsState s → (r : ℕ) (l : Lane) (n : ℕ) (x : live_line.LiveSegment) → slice_get (channel s).lanes r ≡ Some l →
     slice_get (closed s) n ≡ Some x → StandsAmong r l.facts x
 stands-at s state r l n x at there =
     subst (StandsAmong r l.facts) (get_or_from_slice_get (closed s) n x x there)
     (stands-among s state r l at n x (slice_get_within (closed s) n x there))
 
+-- a segment that two origins with the same encoders and epoch have closed has the same entry in both playlists
 listed-alike : (a b : State) → IsState a → IsState b → b.config.epoch ≡ a.config.epoch → (r : ℕ) (l m : Lane) (i j : ℕ) (x : live_line.LiveSegment) →
     slice_get (channel a).lanes r ≡ Some l → slice_get (channel b).lanes r ≡ Some m → LaneBegins l m ⊎ LaneBegins m l →
     slice_get (closed a) i ≡ Some x → slice_get (closed b) j ≡ Some x →
@@ -86,17 +91,19 @@ listed-alike a b state_a state_b epoch r l m i j x at also either here there =
           (stands-at b state_b r m j x also there)
     ]
 
+-- if one lane's units are a prefix of the other's, their init sections have the same size
 pub sizes-same : (l m : Lane) → LaneBegins l m ⊎ LaneBegins m l → m.size ≡ l.size
 sizes-same l m (inl left) = left.size
 sizes-same l m (inr right) = sym right.size
 
--- the segment with index k in a playlist
+-- segment k of a live playlist is made of the closed segment that k other ones and the removed ones precede
 pub listed-at : (s : State) (r : ℕ) (l : Lane) (k : ℕ) (x : MediaSegment) → slice_get (live_list_over s.config.epoch r l (line s)).segments k ≡ Some x →
     (y : live_line.LiveSegment) × (slice_get (closed s) ((channel s).removed + k) ≡ Some y) × (live_media_segment (live_layout s.config.epoch r l) y ≡ x)
 listed-at s r l k x at =
     let made = mapped_at (live_media_segment (live_layout s.config.epoch r l)) (drop (channel s).removed (closed s)) k x at in
     (made.0, sym (at_drop (closed s) (channel s).removed k) ∙ made.1, made.2)
 
+-- for a lane of each: live playlists of two origins that are fed by the same encoders agree
 agree-over : (a b : State) (r : ℕ) (l m : Lane) → IsState a → IsState b → IngestSameUnits a b → slice_get (channel a).lanes r ≡ Some l →
     slice_get (channel b).lanes r ≡ Some m → AgreeOnOverlap (live_list_over a.config.epoch r l (line a)) (live_list_over b.config.epoch r m (line b))
 agree-over a b r l m state_a state_b fed at also =
@@ -129,6 +136,7 @@ agree-over a b r l m state_a state_b fed at also =
           ∙ (ap (marks_in (channel a).removed) (sym is_b) ∙ ap (λ (n : ℕ). marks_in n (closed b)) number);
     }
 
+-- live playlists of two origins that are fed by the same encoders agree
 pub live-lists-agree : (a b : State) (r : ℕ) (p q : Playlist) → IsState a → IsState b → IngestSameUnits a b → live_list_of a r ≡ Some p →
     live_list_of b r ≡ Some q → AgreeOnOverlap p q
 live-lists-agree a b r p q state_a state_b fed p-is q-is =

@@ -14,6 +14,7 @@ use Rattle.hls_playlists_laws.specs.Origins.{AgreeOnOverlap}
 use Rattle.hls_playlists_laws.specs.BasedLists.{based_list_of}
 use Rattle.hls_playlists_laws.specs.PathLists.{segment_by_path, list_by_paths, path_list_of, AreByPaths, IsByPath}
 
+-- segments under paths have as many marks as under ranges, and the same sum of lengths
 pub marks-named : (run : List ℕ) (r : ℕ) (xs : List MediaSegment) → count_by is_marked (map (segment_by_path run r) xs) ≡ count_by is_marked xs
 marks-named run r [] = refl
 marks-named run r (x ∷ xs) =
@@ -31,6 +32,7 @@ lengths-named run r (x ∷ xs) =
 some-named : (run : List ℕ) (r : ℕ) (xs : List MediaSegment) → map (segment_by_path run r) xs ≢ [] → xs ≢ []
 some-named run r xs some none = some (ap (map (segment_by_path run r)) none)
 
+-- a playlist that is valid as a later one is so if both have paths instead of ranges
 pub later-named : (run : List ℕ) (r : ℕ) (p q : Playlist) → IsLater p q → IsLater (list_by_paths run r p) (list_by_paths run r q)
 later-named run r p q later = record {
   version = later.version;
@@ -46,6 +48,7 @@ later-named run r p q later = record {
   long = λ some goes_on. omega (arith, later.long (some-named run r later.evicted some) goes_on, lengths-named run r q.segments);
 }
 
+-- segment k of the list under paths is segment k of the list under ranges, under its path
 named-at : (run : List ℕ) (r : ℕ) (xs : List MediaSegment) (k : ℕ) (x y : MediaSegment) → slice_get xs k ≡ Some x →
     slice_get (map (segment_by_path run r) xs) k ≡ Some y → segment_by_path run r x ≡ y
 named-at run r [] k x y at there = absurd (cc)
@@ -55,6 +58,7 @@ named-at run r (z ∷ xs) zero x y at there =
     ap (segment_by_path run r) (sym same) ∙ same_too
 named-at run r (z ∷ xs) (suc k) x y at there = named-at run r xs k x y at there
 
+-- `segment_by_path` makes, of a segment by its range, the segment by its path
 is-named : (run : List ℕ) (r : ℕ) (x y : MediaSegment) → segment_by_path run r x ≡ y → IsByPath run r x y
 is-named run r x y is = record {
   mark = ap (λ (z : MediaSegment). z.mark) (sym is);
@@ -64,6 +68,7 @@ is-named run r x y is = record {
   uri = ap (λ (z : MediaSegment). z.uri) (sym is);
 }
 
+-- a state with a playlist by ranges has a path list with the same numbers and the same segments
 pub path-lists-match : (s : State) (r : ℕ) (p : Playlist) → based_list_of s r ≡ Some p →
     (q : Playlist) × (path_list_of s r ≡ Some q) × AreByPaths (run_text s.config.base.run) r p q
 path-lists-match s r p is =
@@ -82,6 +87,7 @@ path-lists-match s r p is =
       },
     )
 
+-- if a mapped option is a playlist, the option has a playlist, which is mapped to it
 pub mapped-some : (f : Playlist → Playlist) (o : Option Playlist) (q : Playlist) → option_map f o ≡ Some q → (p : Playlist) × (o ≡ Some p) × (f p ≡ q)
 mapped-some f None q is = absurd (cc)
 mapped-some f (Some p) q is = (p, refl, let same : f p ≡ q = cc in same)

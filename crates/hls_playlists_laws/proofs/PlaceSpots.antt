@@ -12,39 +12,43 @@ use Rattle.hls_places_laws.specs.Spots.{end_spot, first_entry, near_spot, prev_e
 use Rattle.hls_places_laws.specs.Places.{closing_places, common_at, has_ended, place_of, places_of, spots, with_spot}
 use Rattle.hls_places_laws.proofs.Callers.{all-snoc, closing_place, filter_map-all}
 
--- the spot begins with a unit, or after the last one; where the unit begins, and where the one before it ends
+-- a spot has the start of its unit and the end of the unit before it, if there are these
 pub record IsSpotOf (facts : List Facts) (spot : Spot) : Type 0 where
   pub start : spot.fragment < length facts → spot.start ≡ (fact_at facts spot.fragment).start_us
   pub end : 0 < spot.fragment → spot.prev_end ≡ (fact_at facts (spot.fragment - 1)).end_us
 
+-- the end before unit k is the end of unit k - 1, if k is above 0
 ends-before : (facts : List Facts) (k : ℕ) → 0 < k → prev_end facts k ≡ (fact_at facts (k - 1)).end_us
 ends-before facts zero some = absurd (omega (arith, some))
 ends-before facts (suc k) some =
     let same : k ≡ suc k - 1 = omega arith in
     ap (λ (n : ℕ). (fact_at facts n).end_us) same
 
+-- the spot at a unit, and the one after the last unit, have the times of the units beside them
 at-unit : (facts : List Facts) (k : ℕ) → IsSpotOf facts (spot_at facts k)
 at-unit facts k = record { start = λ h. refl; end = λ some. ends-before facts k some }
 
 at-end : (facts : List Facts) → IsSpotOf facts (end_spot facts)
 at-end facts = record { start = λ h. absurd (omega (arith, h)); end = λ some. refl }
 
+-- a spot at a unit that results from a test has the times of the units beside it
 by-of : (facts : List Facts) (k : ℕ) (b : Bool) (spot : Spot) → cond b (Some (spot_at facts k)) None ≡ Some spot → IsSpotOf facts spot
 by-of facts k true spot is =
     let same : spot_at facts k ≡ spot = cc in
     subst (IsSpotOf facts) same (at-unit facts k)
 by-of facts k false spot is = absurd (cc)
 
+-- a spot that is found near a time has the times of the units beside it
 near-of : (s : Source) (t : ℕ) (spot : Spot) → near_spot s t ≡ Some spot → IsSpotOf s.facts spot
 near-of s t spot is =
     let k : ℕ = first_entry (t - s.tolerance) s.facts in
     by-of s.facts k (nat_lt k (length s.facts) && nat_le (fact_at s.facts k).start_us (t + s.tolerance)) spot is
 
--- the spots of a place in each rendition
+-- the spot of a place in each rendition has the times of the units beside it
 abbrev pub AreSpotsOf : List Source → Place → Type 0
 AreSpotsOf sources p = (r : ℕ) → r < length sources → IsSpotOf (source_at sources r).facts (spot_in p.spots r)
 
--- two parts of spots that are there
+-- if a spot and others are all found, the spot is found and so are the others
 with-parts : (o : Option Spot) (rest : Option (List Spot)) (found : List Spot) → with_spot o rest ≡ Some found →
     (spot : Spot) × (others : List Spot) × (o ≡ Some spot) × (rest ≡ Some others) × (spot ∷ others ≡ found)
 with-parts None rest found is = absurd (cc)
@@ -53,6 +57,7 @@ with-parts (Some spot) (Some others) found is =
     let same : spot ∷ others ≡ found = cc in
     (spot, others, refl, refl, same)
 
+-- the spots that are found near a time in all renditions have the times of the units beside them
 spots-of : (sources : List Source) (t : ℕ) (found : List Spot) → spots sources t ≡ Some found → AreSpotsOf sources (place_of found)
 spots-of [] t found is r h = absurd (omega (arith, h))
 spots-of (s ∷ sources) t found is zero h =
@@ -63,12 +68,14 @@ spots-of (s ∷ sources) t found is (suc r) h =
     subst (λ (xs : List Spot). IsSpotOf (source_at sources r).facts (spot_in xs (suc r))) parts.4
     (spots-of sources t parts.1 parts.3 r (omega (arith, h)))
 
+-- a place that is made of spots found near a time has the times of the units beside its spots
 mapped-of : (sources : List Source) (t : ℕ) (o : Option (List Spot)) (p : Place) → spots sources t ≡ o → option_map place_of o ≡ Some p → AreSpotsOf sources p
 mapped-of sources t None p at is = absurd (cc)
 mapped-of sources t (Some found) p at is =
     let same : place_of found ≡ p = cc in
     subst (AreSpotsOf sources) same (spots-of sources t found at)
 
+-- a common place at a unit has the times of the units beside its spots
 common-of : (sources : List Source) (f : Facts) (p : Place) → common_at sources f ≡ Some p → AreSpotsOf sources p
 common-of sources f p is = elim (cases_Bool f.sync) [
   | inl sync ↦ mapped-of sources f.start_us (spots sources f.start_us) p refl (sym (cond-true f.sync _ _ sync) ∙ is)
@@ -77,11 +84,13 @@ common-of sources f p is = elim (cases_Bool f.sync) [
       absurd (cc)
 ]
 
+-- the closing place has the times of the units beside its spots
 ends-of : (sources : List Source) → AreSpotsOf sources (closing_place sources)
 ends-of [] r h = absurd (omega (arith, h))
 ends-of (s ∷ sources) zero h = at-end s.facts
 ends-of (s ∷ sources) (suc r) h = ends-of sources r (omega (arith, h))
 
+-- each place of the sources has the times of the units beside its spots
 pub places-of : (sources : List Source) → All (AreSpotsOf sources) (places_of sources)
 places-of sources =
     let found : List Place = filter_map (common_at sources) (first_facts sources) in

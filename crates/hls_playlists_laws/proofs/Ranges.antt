@@ -39,7 +39,7 @@ bytes_are facts floor units from to low lens =
     ∙ sym (sum-map len_of (take n (drop k (drop floor facts)))) ∙ ap sum mapped
     ∙ sum-map length (take n (drop k units)) ∙ length_concat (take n (drop k units))
 
--- two runs of units, the second after the first
+-- two runs of units, the second right after the first, are one run
 pub units_join : (floor : ℕ) (units : List (List ℕ)) (a b c : ℕ) → floor ≤ a → a ≤ b → b ≤ c →
     concat (units_between floor units a b) ++ concat (units_between floor units b c) ≡ concat (units_between floor units a c)
 units_join floor units a b c low first second =
@@ -51,7 +51,7 @@ units_join floor units a b c low first second =
     ∙ ap concat (sym (take-add (b - a) (c - b) from))
     ∙ ap (λ n. concat (take n from)) (omega arith)
 
--- what a range selects that begins after i of the units and spans d of them
+-- a range that begins after the first i units and spans d of them selects these d units
 pub taken : (head : List ℕ) (units : List (List ℕ)) (i d x : ℕ) →
     take (length (concat (take d (drop i units)))) (drop (length head + length (concat (take i units))) (head ++ concat (take (i + (d + x)) units))) ≡ concat (take d (drop i units))
 taken head units i d x =

@@ -12,19 +12,20 @@ use Rattle.hls_places_laws.specs.Line.Cuts.{start_at, restart_at, segment_to, li
 use Rattle.hls_places_laws.specs.Line.Progress.{LineProgress, no_progress, progress_with, has_earlier, closed_with, progress_to, progress_restarted_at, progress_from, progress_after, advanced_through}
 use Rattle.hls_places_laws.specs.Line.Live.{full_progress}
 
--- what is known of each place is known of both ends
+-- P holds for both ends of a segment, and the segment is allowed
 pub record IsReached (P : Place → Type 0) (line_goal : LineGoal) (x : LiveSegment) : Type 0 where
   pub from : P x.from
   pub to : P x.to
   pub allowed : is_allowed line_goal x.from x.to ≡ true
 
--- a best place, which a segment can reach from its start
+-- P holds for a best place, and a segment from the open place to it is allowed
 record IsBest (P : Place → Type 0) (line_goal : LineGoal) (segment_start : Option SegmentStart) (b : Place) : Type 0 where
   o : SegmentStart
   open_is : segment_start ≡ Some o
   here : P b
   allowed : is_allowed line_goal o.place b ≡ true
 
+-- P holds for each segment's ends, the open place and the best place; each segment is allowed, and so is one to the best place
 pub record AreReached (P : Place → Type 0) (line_goal : LineGoal) (t : LineProgress) : Type 0 where
   pub segments : All (IsReached P line_goal) t.line.segments
   pub segment_start : (o : SegmentStart) → t.line.segment_start ≡ Some o → P o.place
@@ -36,11 +37,13 @@ some-is x y is = cc
 none-best : (P : Place → Type 0) (line_goal : LineGoal) (segment_start : Option SegmentStart) (b : Place) → None ≡ Some b → IsBest P line_goal segment_start b
 none-best P line_goal segment_start b at = absurd (cc)
 
+-- a place with P that a segment from the open place may reach is a best one
 one-best : (P : Place → Type 0) (line_goal : LineGoal) (o : SegmentStart) (q b : Place) → P q → is_allowed line_goal o.place q ≡ true → Some q ≡ Some b →
     IsBest P line_goal (Some o) b
 one-best P line_goal o q b here allowed at =
     subst (IsBest P line_goal (Some o)) (some-is q b at) (record { o = o; open_is = refl; here = here; allowed = allowed })
 
+-- a line of such segments, an open place and a best place is reached if these are
 reached-with : (P : Place → Type 0) (line_goal : LineGoal) (segments : List LiveSegment) (o : SegmentStart) (best : Option Place) → All (IsReached P line_goal) segments →
     P o.place → ((b : Place) → best ≡ Some b → IsBest P line_goal (Some o) b) → AreReached P line_goal (progress_with segments o best)
 reached-with P line_goal segments o best all here bests = record {
@@ -49,12 +52,14 @@ reached-with P line_goal segments o best all here bests = record {
   best = bests;
 }
 
+-- closing a segment to a place that it may reach keeps all segments reached
 reached-closed : (P : Place → Type 0) (line_goal : LineGoal) (removed : ℕ) (segments : List LiveSegment) (o : SegmentStart) (to : Place) → All (IsReached P line_goal) segments →
     P o.place → P to → is_allowed line_goal o.place to ≡ true → All (IsReached P line_goal) (closed_with removed segments o to)
 reached-closed P line_goal removed segments o to all from here allowed =
     all-snoc (IsReached P line_goal) segments (segment_to (has_earlier removed segments) o to) all
     (record { from = from; to = here; allowed = allowed })
 
+-- trying a place with P keeps a line reached, if the line that results from a place out of reach is
 tried-reached : (P : Place → Type 0) (line_goal : LineGoal) (removed : ℕ) (segments : List LiveSegment) (o : SegmentStart) (best : Option Place) (q : Place)
     (stopped : LineProgress) → All (IsReached P line_goal) segments → P o.place → ((b : Place) → best ≡ Some b → IsBest P line_goal (Some o) b) → P q →
     AreReached P line_goal stopped → AreReached P line_goal (progress_to line_goal removed segments o best q stopped)
@@ -69,12 +74,13 @@ tried-reached P line_goal removed segments o best q stopped all here bests there
     (λ out_of_reach. last))
     (λ skipped. reached-with P line_goal segments o best all here bests)
 
--- what follows from being a best place
+-- P holds for a best place, and a segment to it is allowed
 best-reached : (P : Place → Type 0) (line_goal : LineGoal) (o : SegmentStart) (b : Place) → IsBest P line_goal (Some o) b → P b × (is_allowed line_goal o.place b ≡ true)
 best-reached P line_goal o b best =
     let same : best.o ≡ o = some-is best.o o (sym best.open_is) in
     (best.here, subst (λ (x : SegmentStart). is_allowed line_goal x.place b ≡ true) same best.allowed)
 
+-- a place with P out of reach keeps a line reached
 stopped-reached : (P : Place → Type 0) (line_goal : LineGoal) (removed : ℕ) (segments : List LiveSegment) (o : SegmentStart) (best : Option Place) (q : Place) →
     All (IsReached P line_goal) segments → P o.place → ((b : Place) → best ≡ Some b → IsBest P line_goal (Some o) b) → P q →
     AreReached P line_goal (progress_restarted_at line_goal removed segments o best q)
@@ -87,6 +93,7 @@ stopped-reached P line_goal removed segments o (Some b) q all here bests there =
     tried-reached P line_goal removed (closed_with removed segments o b) (start_at b) None q _ closed best.0 (none-best P line_goal (Some (start_at b))) there
     (reached-with P line_goal (closed_with removed segments o b) (restart_at q) None closed there (none-best P line_goal (Some (restart_at q))))
 
+-- one more place with P keeps a line reached, whether or not it has an open place
 advanced-reached : (P : Place → Type 0) (line_goal : LineGoal) (removed : ℕ) (t : LineProgress) (q : Place) → (segment_start : Option SegmentStart) → t.line.segment_start ≡ segment_start →
     AreReached P line_goal t → P q → AreReached P line_goal (progress_from line_goal removed t.line.segments segment_start t.best q)
 unfolding progress_from
@@ -101,6 +108,7 @@ advanced-reached P line_goal removed t q (Some o) is are there =
     tried-reached P line_goal removed t.line.segments o t.best q _ are.segments (are.segment_start o is) bests there
     (stopped-reached P line_goal removed t.line.segments o t.best q are.segments (are.segment_start o is) bests there)
 
+-- more places with P keep a line reached
 progress-reached : (P : Place → Type 0) (line_goal : LineGoal) (removed : ℕ) (t : LineProgress) (places : List Place) → All P places → AreReached P line_goal t →
     AreReached P line_goal (advanced_through line_goal removed t places)
 progress-reached P line_goal removed t [] each are = subst (AreReached P line_goal) (sym (progress-none line_goal removed t)) are
@@ -109,6 +117,7 @@ progress-reached P line_goal removed t (q ∷ rest) each are =
     (progress-reached P line_goal removed (progress_after line_goal removed t q) rest (All-tail P q rest each)
     (advanced-reached P line_goal removed t q t.line.segment_start refl are (All-head P q rest each)))
 
+-- a line without places is reached
 untold-reached : (P : Place → Type 0) (line_goal : LineGoal) → AreReached P line_goal no_progress
 untold-reached P line_goal = record {
   segments = All-nil (IsReached P line_goal);
@@ -116,12 +125,12 @@ untold-reached P line_goal = record {
   best = λ b at. absurd (cc);
 }
 
--- for the whole line of a list of places
+-- if P holds for each place of a list, their whole line is reached
 pub line-reached : (P : Place → Type 0) (line_goal : LineGoal) (places : List Place) → All P places → AreReached P line_goal (full_progress line_goal places)
 line-reached P line_goal places each =
     subst (AreReached P line_goal) (sym (whole-is_told line_goal places)) (progress-reached P line_goal 0 no_progress places each (untold-reached P line_goal))
 
--- once there was a place, a segment is open
+-- a segment is open
 pub record IsOpen (t : LineProgress) : Type 0 where
   pub o : SegmentStart
   pub is : t.line.segment_start ≡ Some o
@@ -129,6 +138,7 @@ pub record IsOpen (t : LineProgress) : Type 0 where
 open-with : (segments : List LiveSegment) (o : SegmentStart) (best : Option Place) → IsOpen (progress_with segments o best)
 open-with segments o best = record { o = o; is = refl }
 
+-- trying a place leaves a segment open, if the line that results from a place out of reach has an open one
 tried-open : (line_goal : LineGoal) (removed : ℕ) (segments : List LiveSegment) (o : SegmentStart) (best : Option Place) (q : Place) (stopped : LineProgress) → IsOpen stopped →
     IsOpen (progress_to line_goal removed segments o best q stopped)
 unfolding progress_to
@@ -141,6 +151,7 @@ tried-open line_goal removed segments o best q stopped last =
     (λ out_of_reach. last))
     (λ skipped. open-with segments o best)
 
+-- a place out of reach leaves a segment open
 stopped-open : (line_goal : LineGoal) (removed : ℕ) (segments : List LiveSegment) (o : SegmentStart) (best : Option Place) (q : Place) →
     IsOpen (progress_restarted_at line_goal removed segments o best q)
 unfolding progress_restarted_at
@@ -148,6 +159,7 @@ stopped-open line_goal removed segments o None q = open-with segments (restart_a
 stopped-open line_goal removed segments o (Some b) q =
     tried-open line_goal removed (closed_with removed segments o b) (start_at b) None q _ (open-with (closed_with removed segments o b) (restart_at q) None)
 
+-- after one more place a segment is open
 advanced-open : (line_goal : LineGoal) (removed : ℕ) (segments : List LiveSegment) (segment_start : Option SegmentStart) (best : Option Place) (q : Place) →
     IsOpen (progress_from line_goal removed segments segment_start best q)
 unfolding progress_from
@@ -155,13 +167,14 @@ advanced-open line_goal removed segments None best q = open-with segments (start
 advanced-open line_goal removed segments (Some o) best q =
     tried-open line_goal removed segments o best q _ (stopped-open line_goal removed segments o best q)
 
+-- more places leave a segment open
 progress-open : (line_goal : LineGoal) (removed : ℕ) (t : LineProgress) (places : List Place) → IsOpen t → IsOpen (advanced_through line_goal removed t places)
 progress-open line_goal removed t [] is = subst IsOpen (sym (progress-none line_goal removed t)) is
 progress-open line_goal removed t (q ∷ rest) is =
     subst IsOpen (sym (progress-more line_goal removed t q rest))
     (progress-open line_goal removed (progress_after line_goal removed t q) rest (advanced-open line_goal removed t.line.segments t.line.segment_start t.best q))
 
--- and so once a segment was closed
+-- once a segment of a line was closed, another one is open
 pub line-open : (line_goal : LineGoal) (places : List Place) → 0 < length (line_of line_goal places).segments → IsOpen (full_progress line_goal places)
 line-open line_goal [] some = absurd (omega (arith, some))
 line-open line_goal (q ∷ rest) some =

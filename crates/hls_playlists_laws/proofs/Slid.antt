@@ -31,9 +31,11 @@ use Rattle.hls_playlists_laws.proofs.Told.{whole, closed, closed-reached, remove
 pub record IsLongIn (line_goal : LineGoal) (renditions : ℕ) (segments : List LiveSegment) : Type 0 where
   pub each : (r : ℕ) → r < renditions → three_targets line_goal ≤ sum_by (length_in r) segments
 
+-- if segments were removed and the line has not ended, three target durations are left in each rendition
 abbrev pub StaysLong : State → Type 0
 StaysLong s = 0 < (channel s).removed → has_ended (line s) ≡ false → IsLongIn (line_goal_of s.config) (length (sources s)) (segments_of (line s))
 
+-- `each_below` is true only if the test passes for each number below the bound
 each-at : (test : ℕ → Bool) (bound r : ℕ) → r < bound → each_below bound test ≡ true → test r ≡ true
 each-at test zero r h is = absurd (omega arith)
 each-at test (suc bound) r h is =
@@ -49,11 +51,12 @@ longer line_goal renditions segments more long = record {
   each = λ r h. omega (arith, long.each r h, sum_by-append (length_in r) segments more);
 }
 
+-- a state that follows another one has as many renditions
 sources-count : (a b : State) → Follows a b → length (sources b) ≡ length (sources a)
 sources-count a b (inl same) = ap (λ (s : State). length (sources s)) (sym same)
 sources-count a b (inr ab) = (sources_grow a b ab.later ab.continues).same
 
--- in a state that follows, while no segment is removed
+-- while no segment is removed, the kept ones stay long enough in a state that follows
 stays-follow : (a b : State) → IsState a → Follows a b → (channel b).removed ≡ (channel a).removed → StaysLong a → StaysLong b
 stays-follow a b state follows removed stays some not_ended =
     elim (cases_Bool (has_ended (line a))) [
@@ -78,7 +81,7 @@ stays-follow a b state follows removed stays some not_ended =
           (subst (λ (c : ConfigData). IsLongIn (line_goal_of c) (length (sources a)) (segments_of (line a) ++ appended.appended)) (sym config) long))
     ]
 
--- what follows if a slide is allowed
+-- a slide removes some of the kept segments, and enough of the line is left
 record MaySlide (live : Live) (n : ℕ) : Type 0 where
   some : 0 < n
   few : n ≤ length (segments_of live)
@@ -88,6 +91,7 @@ some-count : (n : ℕ) → (n == 0) ≡ false → 0 < n
 some-count zero is = absurd (cc)
 some-count (suc n) is = omega arith
 
+-- the result of a slide, by whether enough of the line is left
 abbrev long-or : Bool → Result (Unit {0}) LineFault
 long-or b = (if b then Ok tt else Err TooShort)
 
@@ -95,15 +99,18 @@ long-of : (b : Bool) → long-or b ≡ Ok tt → b ≡ true
 long-of true is = refl
 long-of false is = absurd (cc)
 
+-- the result of a slide, by whether it removes too many segments and whether enough of the line is left
 abbrev slide-by : Bool → Bool → Result (Unit {0}) LineFault
 slide-by many b = (if many then Err TooMany else long-or b)
 
+-- a slide that passes its tests removes some of the kept segments, and enough of the line is left
 may-by : (live : Live) (n : ℕ) (many : Bool) → (n == 0 || nat_lt (length (segments_of live)) n) ≡ many → slide-by many (stays_long live n) ≡ Ok tt → MaySlide live n
 may-by live n true e is = absurd (cc)
 may-by live n false e is =
     let parts = or_parts (n == 0) (nat_lt (length (segments_of live)) n) e in
     record { some = some-count n parts.0; few = ltb-false (length (segments_of live)) n parts.1; stays = long-of (stays_long live n) is }
 
+-- a slide that is allowed removes some of the kept segments, and enough of the line is left
 may-slide : (live : Live) (n : ℕ) → may_slide live n ≡ Ok tt → MaySlide live n
 may-slide live n may = may-by live n (n == 0 || nat_lt (length (segments_of live)) n) refl may
 
@@ -111,7 +118,7 @@ or-right : (a b : Bool) → (a || b) ≡ true → a ≡ false → b ≡ true
 or-right true b is none = absurd (cc)
 or-right false b is none = is
 
--- a slide leaves that much
+-- a slide leaves three target durations in each rendition, unless the line has ended
 stays-slide : (s : State) (by count : ℕ) → IsState s → outcome_of s (Slide count) ≡ New → StaysLong (state_with_entry s by (Slide count))
 stays-slide s by count state new some not_ended =
     let may = may-slide (line s) count ((slides (may_slide (line s) count) (length s.log) new).may) in
@@ -131,6 +138,7 @@ stays-slide s by count state new some not_ended =
     subst (λ (n : ℕ). IsLongIn (line_goal_of s.config) n (segments_of (line (state_with_entry s by (Slide count))))) (ap length (sym same))
     (subst (λ (l : Live). IsLongIn (line_goal_of s.config) (length (sources s)) (segments_of l)) (sym lines) left)
 
+-- each event that is New keeps three target durations in a line with removed segments
 stays-new : (s : State) (by : ℕ) (event : Event) → IsState s → IsFitting s event → outcome_of s event ≡ New → StaysLong s → StaysLong (state_with_entry s by event)
 stays-new s by (Slide count) state fits new stays = stays-slide s by count state new
 stays-new s by (Begin r init bytes) state fits new stays =
@@ -146,13 +154,15 @@ stays-new s by (Trim r floor) state fits new stays =
     let event : Event = Trim r floor in
     stays-follow s (state_with_entry s by event) state (advanced_follows s by event state fits new) (ap (λ (ch : Channel). ch.removed) (channel_advanced s by event)) stays
 
+-- in the first state of a configuration no segment is removed
 stays-first : (config : ConfigData) → StaysLong (first_state config)
 unfolding channel_from
 stays-first config some not_ended = absurd (omega (arith, some))
 
+-- a state's stored bytes don't matter for the length of its line
 stays-same : (s : State) (bytes : List HeldBytes) → StaysLong (record { config = s.config; log = s.log; bytes = bytes }) → StaysLong s
 stays-same s bytes stays = stays
 
--- and so in every state
+-- in every state three target durations are left, if segments were removed and the line has not ended
 pub stays-long : (s : State) → IsState s → StaysLong s
 stays-long = every_state StaysLong stays-same stays-first stays-new

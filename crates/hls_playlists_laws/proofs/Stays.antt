@@ -14,6 +14,7 @@ record Begins (a c : State) : Type 0 where
   config : c.config ≡ a.config
   log : take (length a.log) c.log ≡ a.log
 
+-- a state that follows another one has that one's configuration, and a log that begins with that one's
 begins : (a c : State) → Follows a c → Begins a c
 begins a c (inl same) = subst (λ (s : State). Begins a s) same (record { config = refl; log = take-length a.log })
 begins a c (inr follows) = record {
@@ -25,6 +26,7 @@ begins a c (inr follows) = record {
 abbrev list_of : ℕ → ConfigData → List Entry → Option Playlist
 list_of rendition config log = live_list_of (record { config = config; log = log; bytes = [] }) rendition
 
+-- two states of one log with equally many events have the same live playlists
 pub live-lists-stay : LiveListsStay
 live-lists-stay a b c a_first b_first as_many rendition =
     let of_a : Begins a c = begins a c a_first in

@@ -39,11 +39,13 @@ pub record IsListed (s : State) (r : ℕ) (list : Playlist) : Type 0 where
   pub some : 0 < length (closed s)
   pub is : live_list_over s.config.epoch r lane (line s) ≡ list
 
+-- if a state has closed a segment, there is one in its whole line
 pub closed-some : (s : State) → IsState s → has_closed_segment (line s) ≡ true → 0 < length (closed s)
 closed-some s state is =
     let any = ltb-true 0 ((channel s).removed + length (segments_of (line s))) is in
     omega (arith, any, removed-few s state, length-drop (channel s).removed (closed s))
 
+-- a live playlist that is found by a lane of the state is that of the lane, over at least one closed segment
 found-in : (s : State) → IsState s → (r : ℕ) (o : Option Lane) (list : Playlist) → slice_get (channel s).lanes r ≡ o →
     live_list_in s.config.epoch r o (line s) ≡ Some list → IsListed s r list
 found-in s state r None list at is = absurd (cc)
@@ -57,6 +59,7 @@ found-in s state r (Some l) list at is =
           absurd (cc)
     ]
 
+-- a live playlist of a state is made of the rendition's lane and of at least one closed segment
 pub is-listed : (s : State) → IsState s → (r : ℕ) (list : Playlist) → live_list_of s r ≡ Some list → IsListed s r list
 is-listed s state r list is = found-in s state r (slice_get (channel s).lanes r) list refl is
 
@@ -67,6 +70,7 @@ pub record IsAmong (line_goal : ℕ) (r : ℕ) (l : Lane) (x : live_line.LiveSeg
   pub fits : (spot_in x.to.spots r).prev_end - (spot_in x.from.spots r).start ≤ line_goal * 1000000 + 499999
   pub small : (spot_in x.from.spots r).start < 2 ^ 53
 
+-- each closed segment has units of each rendition, which are there, fits the target duration, and starts before 2^53 microseconds
 pub closed-among : (s : State) → IsState s → (r : ℕ) (l : Lane) → slice_get (channel s).lanes r ≡ Some l → All (IsAmong s.config.target r l) (closed s)
 closed-among s state r l at k d h =
     let x : live_line.LiveSegment = get_or (closed s) k d in
@@ -81,7 +85,7 @@ closed-among s state r l at k d h =
       small = spots_small x.from.spots r reached.from.small;
     }
 
--- so the rendition has begun
+-- a rendition has its init section, of 1 to 1048576 bytes, and each of its units has bytes
 pub record HasBegun (s : State) (r : ℕ) (l : Lane) : Type 0 where
   pub init : InitData
   pub is : l.init ≡ Some init
@@ -89,6 +93,7 @@ pub record HasBegun (s : State) (r : ℕ) (l : Lane) : Type 0 where
   pub few : l.size ≤ 1048576
   pub each : All (λ f. 0 < f.len) l.facts
 
+-- a rendition with a unit has its init section, of 1 to 1048576 bytes, and each of its units has bytes
 begun-at : (s : State) → IsState s → (r : ℕ) (l : Lane) (o : Option InitData) → slice_get (channel s).lanes r ≡ Some l → l.init ≡ o → 0 < length l.facts → HasBegun s r l
 begun-at s state r l None at is some =
     absurd (omega (arith, some, ap length ((lanes_timed s state.legal r l at).bare is)))
@@ -108,6 +113,7 @@ begun-at s state r l (Some init) at is some =
           (units_are_bounded init was.bytes f was.is).some_bytes;
     }
 
+-- once a segment was closed, each rendition has its init section and units that have bytes
 pub has-begun : (s : State) → IsState s → (r : ℕ) (l : Lane) → slice_get (channel s).lanes r ≡ Some l → 0 < length (closed s) → HasBegun s r l
 has-begun s state r l at any =
     let first = some_at (closed s) 0 any in
@@ -139,6 +145,7 @@ starts-small s state r =
     let x : live_line.LiveSegment = get_or (closed s) k d in
     spots_small x.from.spots r ((closed-reached s state).segments k d h).from.small)
 
+-- the live playlists of a state can be written
 pub live-lists-have-texts : (s : State) (r : ℕ) (list : Playlist) → IsState s → live_list_of s r ≡ Some list → HasText list
 live-lists-have-texts s r list state is =
     let on = is-listed s state r list is in

@@ -30,12 +30,14 @@ pub record IsTold (s : State) (p : Place) : Type 0 where
   pub small : All IsSpotInRange p.spots
   pub over : p.closing ≡ true → list_all is_over (sources s) ≡ true
 
+-- a place that is made of spots isn't the closing one
 mapped-open : (o : Option (List _)) (p : Place) → option_map place_of o ≡ Some p → p.closing ≡ false
 mapped-open None p is = absurd (cc)
 mapped-open (Some found) p is =
     let same : place_of found ≡ p = cc in
     sym (ap (λ (x : Place). x.closing) same)
 
+-- a common place at a unit isn't the closing one
 common-open : (xs : List Source) (f : Facts) (p : Place) → common_at xs f ≡ Some p → p.closing ≡ false
 common-open xs f p is =
     elim (cases_Bool f.sync) [
@@ -45,15 +47,18 @@ common-open xs f p is =
           absurd (cc)
     ]
 
+-- if the place is the closing one, all renditions are finished
 EndsOver : List Source → Place → Type 0
 EndsOver xs p = p.closing ≡ true → list_all is_over xs ≡ true
 
+-- this holds for a place that isn't the closing one
 never-over : (xs : List Source) (p : Place) → p.closing ≡ false → EndsOver xs p
 unfolding EndsOver
 never-over xs p not_ended ends =
     let never : false ≡ true = sym not_ended ∙ ends in
     absurd (cc)
 
+-- if a place of the sources is the closing one, all renditions are finished
 ends-over : (xs : List Source) → All (EndsOver xs) (places_of xs)
 unfolding EndsOver
 ends-over xs =
@@ -70,6 +75,7 @@ ends-over xs =
           rw (closing, append-nil found) each
     ]
 
+-- each place of a state is among the units of each rendition, at small times, and the closing one comes once all are finished
 pub places-progress : (s : State) → IsState s → All (IsTold s) (places s)
 unfolding EndsOver
 places-progress s state k d h =
@@ -85,12 +91,15 @@ places-progress s state k d h =
 abbrev pub whole : State → LineProgress
 whole s = full_progress (line_goal_of s.config) (places s)
 
+-- all segments that were ever closed in a state, with the removed ones
 abbrev pub closed : State → List LiveSegment
 closed s = (whole s).line.segments
 
+-- what is known of a state's places holds for the ends of each closed segment, and the segment is allowed
 pub closed-reached : (s : State) → IsState s → AreReached (IsTold s) (line_goal_of s.config) (whole s)
 closed-reached s state = line-reached (IsTold s) (line_goal_of s.config) (places s) (places-progress s state)
 
+-- a state has removed no more segments than it has closed
 pub removed-few : (s : State) → IsState s → (channel s).removed ≤ length (closed s)
 removed-few s state = removed_within s state
 
@@ -100,20 +109,22 @@ closing-over : (s : State) (o : Option SegmentStart) → ((x : SegmentStart) →
 closing-over s None each is = absurd (cc)
 closing-over s (Some o) each is = (each o refl).over is
 
+-- once a state's line has ended, all renditions are finished
 ended-over : (s : State) → IsState s → has_ended (line s) ≡ true → list_all is_over (sources s) ≡ true
 ended-over s state is = closing-over s (whole s).line.segment_start (closed-reached s state).segment_start is
 
--- so they are the same in a state that follows
+-- once the line has ended, a state that follows has the same units in all renditions
 pub ended-stays : (a b : State) → IsState a → Follows a b → has_ended (line a) ≡ true → sources b ≡ sources a
 ended-stays a b state (inl same) is = ap sources (sym same)
 ended-stays a b state (inr ab) is =
     over-stays (sources a) (sources b) (sources_grow a b ab.later ab.continues) (ended-over a ab.earlier is)
 
--- the segments of a state that follows
+-- a later state has the closed segments of an earlier one, and perhaps more after them
 pub record Came (a b : State) : Type 0 where
   pub appended : List LiveSegment
   pub is : closed b ≡ closed a ++ appended
 
+-- a state that follows has the closed segments of the earlier one, and perhaps more after them
 pub closed-follow : (a b : State) → Follows a b → Came a b
 closed-follow a b follows =
     let on = places_follow a b follows in
@@ -125,7 +136,7 @@ closed-follow a b follows =
           ∙ (ap (λ (ps : List Place). (line_of line_goal ps).segments) on.is ∙ longer.1);
     }
 
--- a state has at most one more common place than entries
+-- a filtered list has no more items than the list
 filtered : {X Y : Type 0} (f : X → Option Y) (xs : List X) → length (filter_map f xs) ≤ length xs
 filtered f [] = omega arith
 filtered f (x ∷ xs) = elim (f x) as (λ o. length (cons_option o (filter_map f xs)) ≤ suc (length xs)) [
@@ -133,10 +144,12 @@ filtered f (x ∷ xs) = elim (f x) as (λ o. length (cons_option o (filter_map f
   | Some y ↦ omega (arith, filtered f xs)
 ]
 
+-- at most one closing place follows the common places
 closing-one : (b : Bool) (p : Place) → length (cond b (p ∷ []) []) ≤ 1
 closing-one true p = omega arith
 closing-one false p = omega arith
 
+-- a state has at most one common place more than a log has entries: at most 4194305
 pub places-few : (s : State) → IsState s → length (places s) ≤ 4194305
 places-few s state =
     let lane_at = some_at (channel s).lanes 0 (omega (arith, lanes_count s.config s.log, state.configured.renditions.some)) in

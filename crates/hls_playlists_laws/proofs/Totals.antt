@@ -12,18 +12,21 @@ use Rattle.hls_core_laws.specs.Channel.{Channel, Lane, no_lane, fresh_lane, lane
 use Rattle.hls_core_laws.specs.State.{State, channel}
 use Rattle.hls_core_laws.specs.IsState.{IsState}
 
--- at most that many, and none before the init section
+-- a lane has at most 2^40 bytes, and no unit before its init section
 record IsSmall (l : Lane) : Type 0 where
   total : lane_len l ≤ 2 ^ 40
   bare : l.init ≡ None → l.facts ≡ []
 
+-- each lane is small
 AllSmall : List Lane → Type 0
 AllSmall lanes = (r : ℕ) (l : Lane) → slice_get lanes r ≡ Some l → IsSmall l
 
+-- replacing a lane by a small one leaves all lanes small
 small-set : (lanes : List Lane) (q : ℕ) (new : Lane) → AllSmall lanes → IsSmall new → AllSmall (slice_set lanes q new)
 unfolding AllSmall
 small-set = each_set IsSmall
 
+-- an event that may be added keeps all lanes small
 small-after : (config : ConfigData) (ch : Channel) (e : LoggedEvent) → MayAdd config ch e → AllSmall ch.lanes → AllSmall (channel_after e ch).lanes
 unfolding AllSmall
 small-after config ch (Begun q init len) may small =
@@ -54,18 +57,21 @@ small-after config ch (Trimmed q floor) may small =
     let new : IsSmall (with_floor floor may.lane) = record { total = old.total; bare = old.bare } in
     small-set ch.lanes q (with_floor floor (lane ch q)) small (subst (λ (l : Lane). IsSmall (with_floor floor l)) (sym is) new)
 
+-- a legal log keeps all lanes small
 small-from : (config : ConfigData) (ch : Channel) (log : List Entry) → LegalFrom config ch log → AllSmall ch.lanes → AllSmall (channel_from ch log).lanes
 unfolding LegalFrom channel_from
 small-from config ch [] legal small = small
 small-from config ch (e ∷ es) legal small =
     small-from config (channel_after e.event ch) es legal.1 (small-after config ch e.event legal.0 small)
 
+-- before any event all lanes are small
 small-first : (config : ConfigData) → AllSmall (first_channel config).lanes
 unfolding AllSmall
 small-first config r l at =
     let m = mapped_at fresh_lane config.renditions r l at in
     subst (λ (x : Lane). IsSmall x) m.2 (record { total = omega arith; bare = λ e. refl })
 
+-- a rendition's recording in a state has at most 2^40 bytes
 pub lane-small : (s : State) → IsState s → (r : ℕ) (l : Lane) → slice_get (channel s).lanes r ≡ Some l → lane_len l ≤ 2 ^ 40
 unfolding AllSmall
 lane-small s state r l at =

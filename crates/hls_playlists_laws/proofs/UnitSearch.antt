@@ -14,13 +14,14 @@ at-none : (n : ℕ) (facts : List Facts) → unit_after n facts 0 ≡ Some n
 at-none n [] = refl
 at-none n (f ∷ fs) = refl
 
--- one step of the search
+-- two searches with the same first unit agree on what is found, if they do after that unit
 step-on : (b c : Bool) (n m : ℕ) (y z : Option ℕ) → (y ≡ Some m → z ≡ Some m) →
     cond b (Some n) (cond c None y) ≡ Some m → cond b (Some n) (cond c None z) ≡ Some m
 step-on true c n m y z on is = is
 step-on false true n m y z on is = is
 step-on false false n m y z on is = on is
 
+-- if the units end here, what is found is found by each search that finds number n where no byte is left
 only-none : (b : Bool) (n m : ℕ) (z : Option ℕ) → (b ≡ true → z ≡ Some n) → cond b (Some n) None ≡ Some m → z ≡ Some m
 only-none true n m z on is = on refl ∙ is
 only-none false n m z on is = absurd (cc)
@@ -34,13 +35,14 @@ found-in_more n (f ∷ fs) more k m is =
     step-on (k == 0) (nat_lt k f.len) n m (unit_after (suc n) fs (k - f.len)) (unit_after (suc n) (fs ++ more) (k - f.len))
     (found-in_more (suc n) fs more (k - f.len) m) is
 
--- what is found
+-- what is found among units that are numbered from n on: unit m is one of them, or their end, and those before it have k bytes
 pub record IsFound (n : ℕ) (facts : List Facts) (k m : ℕ) : Type 0 where
   pub number : ℕ
   pub is : m ≡ n + number
   pub within : number ≤ length facts
   pub bytes : total_bytes (take number facts) ≡ k
 
+-- among no units, the end is found, after no bytes
 found-none : (b : Bool) (n m k : ℕ) → (k == 0) ≡ b → cond b (Some n) None ≡ Some m → IsFound n [] k m
 found-none true n m k none is = record {
   number = 0;
@@ -50,6 +52,7 @@ found-none true n m k none is = record {
 }
 found-none false n m k none is = absurd (cc)
 
+-- what is found after the first unit has the bytes of that unit before it as well
 found-step : (b c : Bool) (n m k : ℕ) (f : Facts) (fs : List Facts) → (k == 0) ≡ b → nat_lt k f.len ≡ c →
     (unit_after (suc n) fs (k - f.len) ≡ Some m → IsFound (suc n) fs (k - f.len) m) →
     cond b (Some n) (cond c None (unit_after (suc n) fs (k - f.len))) ≡ Some m → IsFound n (f ∷ fs) k m
@@ -70,6 +73,7 @@ found-step false false n m k f fs none few on is =
       bytes = omega (arith, sums, next.bytes, ltb-false k f.len few);
     }
 
+-- a unit that is found has exactly the given number of bytes before it
 pub is-found : (n : ℕ) (facts : List Facts) (k m : ℕ) → unit_after n facts k ≡ Some m → IsFound n facts k m
 is-found n [] k m is = found-none (k == 0) n m k refl is
 is-found n (f ∷ fs) k m is =
@@ -93,6 +97,7 @@ finds n (f ∷ fs) (suc number) some few =
     ∙ (cond-false (nat_lt bytes f.len) None _ (le-ltb bytes f.len (omega (arith, sums)))
     ∙ (ap (unit_after (suc n) fs) rest ∙ (next ∙ ap (λ (k : ℕ). Some k) same)))
 
+-- the same for numbers from 0 on
 pub finds-first : (facts : List Facts) (number : ℕ) → All (λ f. 0 < f.len) facts → number ≤ length facts →
     unit_after 0 facts (total_bytes (take number facts)) ≡ Some number
 finds-first facts number some few =

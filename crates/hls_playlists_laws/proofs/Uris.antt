@@ -9,6 +9,7 @@ use Rattle.std.proofs.lemmas.Str.{IsAscii-append}
 use Rattle.hls_m3u8.specs.Uri.{is_uri_byte, is_uri_text, IsUri}
 use Rattle.hls_playlists_laws.proofs.Cited.{ascii_uri}
 
+-- a rendition's number and `.mp4` have only bytes of a URI
 spelled : (r : ℕ) → r < 16 → IsTrue (is_uri_text (decimal r ++ codes ".mp4"))
 unfolding digits
 spelled zero few = refl
@@ -43,9 +44,11 @@ front = search arith
 plain : (r : ℕ) → r < 16 → IsAscii (decimal r ++ codes ".mp4")
 plain r few = IsAscii-append (decimal r) (codes ".mp4") (IsAscii-decimal r (omega arith)) back
 
+-- a rendition's number and `.mp4` are a URI that can be written
 pub number_uri : (r : ℕ) → r < 16 → IsUri (decimal r ++ codes ".mp4")
 number_uri r few = ascii_uri (decimal r ++ codes ".mp4") (spelled r few) (plain r few)
 
+-- they are one below `/media/` too
 pub media_uri : (r : ℕ) → r < 16 → IsUri (codes "/media/" ++ decimal r ++ codes ".mp4")
 media_uri r few =
     let text : List ℕ = decimal r ++ codes ".mp4" in

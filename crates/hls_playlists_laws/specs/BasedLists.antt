@@ -6,7 +6,7 @@ use Rattle.hls_core_laws.specs.State.{State}
 use Rattle.hls_playlists_laws.specs.Live.{live_list_of}
 use Rattle.hls_playlists_laws.specs.JoinedLists.{Offsets, joined_list, marks_uncounted}
 
--- the constants of one rendition
+-- what precedes a base, in one rendition
 abbrev pub offsets_from : BaseData → ℕ → Offsets
 offsets_from base r = record { segments = base.segments; marks = base.marks; marked = base.marked; bytes = bytes_before_base base r }
 
@@ -14,7 +14,7 @@ offsets_from base r = record { segments = base.segments; marks = base.marks; mar
 abbrev pub list_from : BaseData → State → ℕ → Option Playlist
 list_from base s r = option_map (joined_list (offsets_from base r)) (live_list_of s r)
 
--- .. from the state's own base
+-- a rendition's live playlist, counted from the state's own base
 abbrev pub based_list_of : State → ℕ → Option Playlist
 based_list_of s r = list_from s.config.base s r
 
@@ -23,7 +23,7 @@ abbrev pub marked_after : Bool → ℕ → Bool → Bool
 marked_after first zero marked = first
 marked_after first (suc n) marked = marked
 
--- what precedes a cut that is so far after a base: the base of a process that continues at the cut
+-- what precedes a cut, if these offsets lead from a base to the cut: the base of a process that continues at the cut
 abbrev pub offsets_after : Offsets → Offsets → Offsets
 offsets_after base cut = record {
   segments = base.segments + cut.segments;

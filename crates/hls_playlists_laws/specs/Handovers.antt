@@ -37,6 +37,7 @@ pub record IsHandedOver (a b : State) (n : ℕ) (cut : Place) : Type 0 where
 abbrev pub bytes_before : Place → ℕ → Lane → ℕ
 bytes_before cut r l = total_bytes (take (unit_at cut r) l.facts)
 
+-- the number of marks in the first n + 1 segments of a state's line, including the removed ones
 abbrev pub marks_to : State → ℕ → ℕ
 marks_to a n = marks_in (n + 1) (segments_over (line_goal_of a.config) (sources a))
 

@@ -23,10 +23,12 @@ pub record Offsets : Type 0 where
   pub marked : Bool
   pub bytes : ℕ
 
+-- whether the first of some segments has a mark; no, if there is none
 abbrev pub is_first_marked : List live_line.LiveSegment → Bool
 is_first_marked [] = false
 is_first_marked (segment ∷ rest) = segment.mark
 
+-- what precedes a cut after n segments of the first's line, in one rendition
 abbrev pub offsets_of : State → ℕ → Place → ℕ → Lane → Offsets
 offsets_of a n cut rendition l = record {
   segments = n;
@@ -39,6 +41,7 @@ offsets_of a n cut rendition l = record {
 abbrev pub shifted_segment : ℕ → MediaSegment → MediaSegment
 shifted_segment bytes x = record { mark = x.mark; date = x.date; us = x.us; range = option_map (shifted_range bytes) x.range; uri = x.uri }
 
+-- a segment with another mark
 abbrev pub with_mark : Bool → MediaSegment → MediaSegment
 with_mark mark x = record { mark = mark; date = x.date; us = x.us; range = x.range; uri = x.uri }
 
@@ -47,6 +50,7 @@ abbrev pub joined_segment : Offsets → ℕ → MediaSegment → MediaSegment
 joined_segment o zero x = with_mark o.marked (shifted_segment o.bytes x)
 joined_segment o (suc number) x = shifted_segment o.bytes x
 
+-- the second's segments, numbered from `number` on, each as it follows the first's
 abbrev pub joined_segments : Offsets → ℕ → List MediaSegment → List MediaSegment
 joined_segments o number [] = []
 joined_segments o number (x ∷ rest) = joined_segment o number x ∷ joined_segments o (suc number) rest

@@ -4,12 +4,15 @@ use Rattle.std.specs.List.{sum_by, count_by}
 use Rattle.hls_m3u8.specs.declared.playlist.MediaSegment.{MediaSegment}
 use Rattle.hls_m3u8.specs.Playlist.{Playlist}
 
+-- whether a segment has a mark
 abbrev pub is_marked : MediaSegment → Bool
 is_marked segment = segment.mark
 
+-- a segment's length in microseconds
 abbrev pub length_us : MediaSegment → ℕ
 length_us segment = segment.us
 
+-- playlist b is valid as a later version of playlist a: it changes only what a reload may change
 pub record IsLater (a b : Playlist) : Type 0 where
   pub version : b.version ≡ a.version
   pub target : b.target ≡ a.target

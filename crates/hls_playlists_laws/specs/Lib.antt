@@ -1,3 +1,5 @@
+-- The statements on playlists: segments of jobs, live playlists and those valid as later ones, handovers and bases, path lists, and the units
+-- that paths name.
 pub mod JobPlaylists
 pub mod Media
 pub mod JobResource

@@ -41,10 +41,11 @@ live_list_over epoch rendition l live =
 abbrev pub has_closed_segment : Live → Bool
 has_closed_segment live = nat_lt 0 (live.removed + length (segments_of live))
 
+-- the live playlist of a rendition by its lane; there is none without a lane, or before a segment has been closed
 abbrev pub live_list_in : Option ℤ → ℕ → Option Lane → Live → Option Playlist
 live_list_in epoch rendition None live = None
 live_list_in epoch rendition (Some l) live = (if has_closed_segment live then Some (live_list_over epoch rendition l live) else None)
 
--- there is one for each rendition of the channel, once a segment has been closed
+-- the live playlist of a rendition in a state: there is one for each rendition of the channel, once a segment has been closed
 abbrev pub live_list_of : State → ℕ → Option Playlist
 live_list_of s rendition = live_list_in s.config.epoch rendition (slice_get (channel s).lanes rendition) (line s)

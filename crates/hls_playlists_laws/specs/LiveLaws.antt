@@ -32,7 +32,7 @@ abbrev pub LiveListsAgree : Type 0
 LiveListsAgree = (a b : State) (rendition : ℕ) (p q : Playlist) → IsState a → IsState b → IngestSameUnits a b →
     live_list_of a rendition ≡ Some p → live_list_of b rendition ≡ Some q → AgreeOnOverlap p q
 
--- a channel that is handed over to an origin at a cut of its live line continues there
+-- the live playlist of a channel that continues another one at a cut of its live line continues that one's
 abbrev pub LiveListsContinueAtHandover : Type 0
 LiveListsContinueAtHandover = (a b : State) (n : ℕ) (cut : Place) (rendition : ℕ) (l : Lane) (p q : Playlist) → IsState a → IsState b →
     IsHandedOver a b n cut → slice_get (channel a).lanes rendition ≡ Some l → live_list_of a rendition ≡ Some p →
@@ -44,7 +44,7 @@ LiveListsJoinAtHandover = (a b : State) (n : ℕ) (cut : Place) (rendition : ℕ
     IsHandedOver a b n cut → slice_get (channel a).lanes rendition ≡ Some l → live_list_of a rendition ≡ Some p →
     live_list_of b rendition ≡ Some q → MayTakeOver n p q → IsLater p (joined_list (offsets_of a n cut rendition l) q)
 
--- and so is each later one of the second's, with the same constants
+-- with any constants added, the playlist of a state that follows is valid as a later one
 abbrev pub LiveListsStayJoined : Type 0
 LiveListsStayJoined = (a b : State) (o : Offsets) (rendition : ℕ) (earlier : Playlist) → IsState a → Follows a b →
     live_list_of a rendition ≡ Some earlier →

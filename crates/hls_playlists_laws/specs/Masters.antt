@@ -12,6 +12,7 @@ use Rattle.hls_m3u8.specs.Masters.{Master}
 abbrev pub list_uri : List ℕ → ℕ → List ℕ
 list_uri folder rendition = folder ++ (decimal rendition ++ codes ".m3u8")
 
+-- whether a rendition has video
 abbrev pub is_video : Rendition → Bool
 is_video rendition = rendition.video
 

@@ -26,6 +26,8 @@ pub data Named : Type 0 where
   TrimmedUnits : Named
   KeptUnits : ℕ → ℕ → Named
 
+-- what is named between two units' starts: nothing if one isn't found or the units can't be a segment, and trimmed units if the first is
+-- below the floor
 abbrev pub named_between : ℕ → List Facts → ℕ → Option ℕ → Option ℕ → Named
 named_between target facts floor (Some m) (Some n) =
     if may_be_segment target facts m n then (if nat_lt m floor then TrimmedUnits else KeptUnits m n) else NoUnits
@@ -39,7 +41,7 @@ named_units before target size facts floor first last =
     else (if nat_lt first (size + before) then TrimmedUnits
     else named_between target facts floor (unit_after 0 facts (first - (size + before))) (unit_after 0 facts (last + 1 - (size + before))))
 
--- .. in a lane
+-- what the bytes from number `first` to number `last` of a lane name, if `before` bytes of units precede its recording
 abbrev pub named_in : ℕ → ℕ → Lane → ℕ → ℕ → Named
 named_in before target l first last = named_units before target l.size l.facts l.floor first last
 

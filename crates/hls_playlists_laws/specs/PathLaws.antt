@@ -61,6 +61,7 @@ PathsNeverChange = (before : ℕ) (a b : State) (r : ℕ) (l k : Lane) (h g : He
     named_in before a.config.target l first last ≡ KeptUnits m n →
     NamesOrTrimmed before a.config.target k first last m n × (named_in before a.config.target k first last ≡ KeptUnits m n → unit_bytes k g m n ≡ unit_bytes l h m n)
 
+-- a path that names trimmed units of a rendition with an init section names trimmed ones in every later state
 abbrev pub TrimmedPathsStayTrimmed : Type 0
 TrimmedPathsStayTrimmed = (before : ℕ) (a b : State) (r : ℕ) (l k : Lane) (init : InitData) (first last : ℕ) → IsState a → Follows a b →
     slice_get (channel a).lanes r ≡ Some l → slice_get (channel b).lanes r ≡ Some k → l.init ≡ Some init →
@@ -81,7 +82,7 @@ abbrev pub ListedPathsAreKept : Type 0
 ListedPathsAreKept = (s : State) (r : ℕ) (l : Lane) (list : Playlist) (k : ℕ) (x : MediaSegment) → IsState s →
     slice_get (channel s).lanes r ≡ Some l → path_list_of s r ≡ Some list → slice_get list.segments k ≡ Some x → IsKeptPath s r l x.uri
 
--- and its init section is there
+-- a rendition with a path list has its init section
 abbrev pub ListedInitsAreThere : Type 0
 ListedInitsAreThere = (s : State) (r : ℕ) (l : Lane) (list : Playlist) → IsState s → slice_get (channel s).lanes r ≡ Some l →
     path_list_of s r ≡ Some list → (init : InitData) × (l.init ≡ Some init)
@@ -120,13 +121,13 @@ abbrev pub BaseOfCutTakesOver : Type 0
 BaseOfCutTakesOver = (a b : State) (n : ℕ) (cut : Place) (r : ℕ) (l : Lane) → IsHandedOver a b n cut → b.config.base ≡ base_of_cut a n cut →
     slice_get (channel a).lanes r ≡ Some l → TakesOver a b n cut r l
 
--- before, it is valid as a later one
+-- if the second's playlist may take over, it is, counted from the same base, valid as a later one of the first's
 abbrev pub HandedOverListsJoin : Type 0
 HandedOverListsJoin = (base : Offsets) (a b : State) (n : ℕ) (cut : Place) (r : ℕ) (l : Lane) (p q : Playlist) → IsState a → IsState b →
     IsHandedOver a b n cut → slice_get (channel a).lanes r ≡ Some l → live_list_of a r ≡ Some p → live_list_of b r ≡ Some q →
     MayTakeOver n p q → IsLater (joined_list base p) (joined_list (offsets_after base (offsets_of a n cut r l)) q)
 
--- and both agree, however far each has come
+-- the playlists of both channels agree, however far each has come
 abbrev pub HandedOverListsAgree : Type 0
 HandedOverListsAgree = (a b : State) (n : ℕ) (cut : Place) (r : ℕ) (l : Lane) (p q : Playlist) → IsState a → IsState b →
     IsHandedOver a b n cut → slice_get (channel a).lanes r ≡ Some l → live_list_of a r ≡ Some p → live_list_of b r ≡ Some q →
@@ -153,7 +154,7 @@ PathsNameSameUnitsAfterHandover = (before : ℕ) (a b : State) (n : ℕ) (cut : 
     named_in before a.config.target l first last ≡ KeptUnits (unit_at cut r + i) (unit_at cut r + j) →
     NamesOrTrimmed (before + bytes_before cut r l) b.config.target m first last i j
 
--- where both keep them, they have the same bytes, if the encoders sent both the same units
+-- units that both channels keep have the same bytes, if the encoders sent both the same units
 abbrev pub HandedOverUnitsHaveSameBytes : Type 0
 HandedOverUnitsHaveSameBytes = (u i j : ℕ) (l m : Lane) (h g : HeldBytes) → MatchesBytes l h → MatchesBytes m g → SameUnitsFrom u l m h g → i ≤ j →
     l.floor ≤ u + i → m.floor ≤ i → u + j ≤ length l.facts → j ≤ length m.facts → unit_bytes l h (u + i) (u + j) ≡ unit_bytes m g i j

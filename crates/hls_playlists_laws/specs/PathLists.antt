@@ -22,6 +22,7 @@ abbrev pub path_in : List ℕ → Option ByteRange → List ℕ
 path_in folder None = []
 path_in folder (Some range) = folder ++ (range_text range ++ codes ".m4s")
 
+-- the path of a range of rendition r: `<run>/<r>/<first byte>-<last byte>.m4s`
 abbrev pub segment_path : List ℕ → ℕ → Option ByteRange → List ℕ
 segment_path run r range = path_in (media_folder run r) range
 
@@ -33,6 +34,7 @@ init_in folder = record { uri = folder ++ codes "init.mp4"; range = None }
 abbrev pub segment_in : List ℕ → MediaSegment → MediaSegment
 segment_in folder x = record { mark = x.mark; date = x.date; us = x.us; range = None; uri = path_in folder x.range }
 
+-- a segment of rendition r under its path instead of its range
 abbrev pub segment_by_path : List ℕ → ℕ → MediaSegment → MediaSegment
 segment_by_path run r x = segment_in (media_folder run r) x
 
@@ -53,7 +55,7 @@ list_by_paths run r list = record {
 abbrev pub path_list_of : State → ℕ → Option Playlist
 path_list_of s r = option_map (list_by_paths (run_text s.config.base.run) r) (based_list_of s r)
 
--- a segment by its range and by its path
+-- y is segment x under its path instead of its range
 pub record IsByPath (run : List ℕ) (r : ℕ) (x y : MediaSegment) : Type 0 where
   pub mark : y.mark ≡ x.mark
   pub date : y.date ≡ x.date

@@ -14,10 +14,11 @@ use Rattle.hls_playlists_laws.specs.Media.{joined_media}
 use Rattle.hls_playlists_laws.specs.JobResource.{units_between, resource_of, HaveLengths}
 use Rattle.hls_playlists_laws.specs.Segments.{ResourceLayout, plan_segments}
 
--- a table's first fragment of a rendition, and the one after its last
+-- the number of a table's first fragment of a rendition
 abbrev pub first_fragment : Table → ℕ → ℕ
 first_fragment t r = (spot_in (place_at t.places 0) r).fragment
 
+-- the number after that of a table's last fragment of a rendition
 abbrev pub end_fragment : Table → ℕ → ℕ
 end_fragment t r = (spot_in (place_at t.places (length t.places - 1)) r).fragment
 

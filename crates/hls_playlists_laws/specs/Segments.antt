@@ -20,7 +20,7 @@ pub record ResourceLayout : Type 0 where
   pub facts : List Facts
   pub epoch : Option ℤ
 
--- the number of gaps before the spot's fragment isn't the one after its start
+-- there is a gap just before the spot: more gaps precede the start of its fragment than that of the fragment before
 abbrev pub is_gap_at : Spot → Bool
 is_gap_at spot = not (spot.run_in == spot.run_out)
 

@@ -1,3 +1,4 @@
+-- The line of a date is its tag's name, the instant's text and a line feed; a date fits the type that it is formatted from.
 use Rattle.std.proofs.Common.{◌≡◌, ◌++◌, Some, codes, sym, ap, ◌∙◌, subst, rules}
 use Rattle.hls_instants.specs.Instants.{instant_text}
 use Rattle.hls_m3u8.specs.HasText.{IsDate}

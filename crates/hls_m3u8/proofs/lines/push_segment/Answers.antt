@@ -1,3 +1,4 @@
+-- A segment's lines are appended in five parts: mark, date, EXTINF, range and URI.
 use Rattle.std.proofs.Common.{◌≡◌, [], ◌∷◌, ◌++◌, ap, ◌∙◌}
 use Rattle.hls_m3u8.specs.Lines.{text_of_lines, mark_lines, date_lines, extinf_line, range_lines}
 use Rattle.hls_m3u8.proofs.lines.push_segment.Goals as goal

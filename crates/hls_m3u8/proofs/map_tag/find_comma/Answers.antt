@@ -1,3 +1,4 @@
+-- By whether an attribute ends at the current byte, or the text ends.
 use Rattle.std.proofs.Common.{◌≡◌, ◌+◌, sym, false, drop, get_or, arith}
 use Rattle.hls_m3u8.specs.Attributes.{toggle_quote}
 use Rattle.hls_m3u8.specs.Commas.{comma_offset}

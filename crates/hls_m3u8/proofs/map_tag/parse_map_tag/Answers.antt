@@ -1,3 +1,4 @@
+-- By whether the first of the remaining attributes is rejected, is the last one, or has others after it.
 use Rattle.std.proofs.Common.{◌≡◌, refl, sym, ◌∙◌, false, Some, None, List, ℕ, rules}
 use Rattle.std.specs.Borrow.{Bor}
 use Rattle.std.specs.Prelude.{option_map}

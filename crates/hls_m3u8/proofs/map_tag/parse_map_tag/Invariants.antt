@@ -1,3 +1,5 @@
+-- Before each round, the attributes read so far and the remaining text, which is UTF-8, give the result of the whole EXT-X-MAP. The remaining
+-- text gets shorter.
 use Rattle.std.proofs.Common.{◌≡◌, false, length}
 use denote.Text.{Utf8}
 use denote.Shadow.{shadow}

@@ -1,3 +1,4 @@
+-- A comma is an ASCII byte, so the text may be split before and after it; without a comma the text is one attribute.
 use Rattle.std.proofs.Common.{◌≡◌, ◌-◌, sym, ◌∙◌, ap, false, ℕ, take, get_or, arith}
 use Rattle.std.proofs.lemmas.Str.{IsCharBoundary-before_ascii, IsCharBoundary-after_ascii}
 use Rattle.hls_m3u8.specs.Commas.{comma_offset}

@@ -1,3 +1,4 @@
+-- Each line that is accepted keeps its segment; the first that isn't ends the loop with its fault.
 use Rattle.std.proofs.Common.{◌≡◌, sym, arith, rules}
 use Rattle.std.specs.Prelude.{Err}
 use Rattle.hls_m3u8.specs.TextLines.{text_lines}

@@ -1,3 +1,5 @@
+-- Before each round, the segments stored so far and the result of the remaining lines are the result of all lines. The remaining text is the end
+-- of the whole text, and it gets shorter; so line numbers can't overflow.
 use Rattle.std.proofs.Common.{◌≡◌, ◌+◌, ◌-◌, ◌≤◌, length, drop}
 use denote.Text.{Utf8}
 use denote.Shadow.{shadow}

@@ -1,3 +1,4 @@
+-- Each line that is accepted leaves the result to the lines after it; the first rejected line, or the state at the end, decides it.
 use Rattle.std.proofs.Common.{◌≡◌, arith, rules}
 use Rattle.std.specs.Prelude.{Err}
 use Rattle.hls_m3u8.specs.TextLines.{text_lines}

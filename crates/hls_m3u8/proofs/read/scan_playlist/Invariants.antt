@@ -1,3 +1,5 @@
+-- Before each round, the remaining lines give the result of all lines, except for the segments already found. The remaining text gets shorter, so
+-- line numbers can't overflow.
 use Rattle.std.proofs.Common.{◌+◌, ◌≤◌, length}
 use denote.Text.{Utf8}
 use denote.Shadow.{shadow}

@@ -1,3 +1,4 @@
+-- The value of EXT-X-PROGRAM-DATE-TIME is read as its instant, rounded down to whole milliseconds; the multiplication by 1000 doesn't overflow.
 use Rattle.std.proofs.Common.{◌≡◌, ℕ, List, Some, option_map, sym, ap, ◌∙◌, rules}
 use Rattle.std.specs.Borrow.{Bor}
 use Rattle.hls_instants.specs.Instants.{instant_of}

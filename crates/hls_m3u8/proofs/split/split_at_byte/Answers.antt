@@ -1,3 +1,4 @@
+-- The text is cut at the first of these bytes, or is one part if there is none. The cut is between two characters, since the byte is ASCII.
 use Rattle.std.proofs.Common.{◌≡◌, ◌-◌, ap, sym, ◌∙◌, Some, arith}
 use Rattle.hls_m3u8.specs.TextLines.{Split}
 use Rattle.hls_m3u8.proofs.Cuts.{cut_nowhere, cut_there, before_byte, behind_byte}

@@ -1,3 +1,4 @@
+-- Before each round, the bytes so far are allowed in a URI: all bytes are exactly if the remaining ones are.
 use Rattle.std.proofs.Common.{◌≡◌, drop}
 use Rattle.std.specs.List.{list_all}
 use Rattle.hls_m3u8.specs.Uri.{is_uri_byte}

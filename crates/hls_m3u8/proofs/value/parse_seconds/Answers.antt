@@ -1,3 +1,4 @@
+-- A text of decimal seconds is read as microseconds, as this crate defines them; `hls_time` reads the same value.
 use Rattle.std.proofs.Common.{ap, ◌∙◌}
 use Rattle.hls_m3u8.specs.Values.{seconds}
 use Rattle.hls_m3u8.proofs.Times.{same_seconds}

@@ -1,3 +1,4 @@
+-- The log's metrics are appended: its number of entries, and then the number at which it is full.
 use Rattle.hls_metrics.specs.Metrics.{log_metrics}
 use Rattle.hls_metrics.proofs.Appends.{two}
 use Rattle.hls_metrics.proofs.channel_metrics.push_log_metrics.Goals as goal

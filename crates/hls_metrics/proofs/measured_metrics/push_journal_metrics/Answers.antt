@@ -1,3 +1,4 @@
+-- The journal's metrics are appended: whether the channel lost it, and then how long ago it was synced last.
 use Rattle.hls_metrics.specs.Measurements.{journal_metrics}
 use Rattle.hls_metrics.proofs.Appends.{two}
 use Rattle.hls_metrics.proofs.measured_metrics.push_journal_metrics.Goals as goal

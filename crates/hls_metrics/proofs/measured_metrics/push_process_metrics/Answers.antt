@@ -1,3 +1,4 @@
+-- The metrics of the process's memory are appended: the resident memory, the address space, and the limit of the address space.
 use Rattle.hls_metrics.specs.Measurements.{process_metrics}
 use Rattle.hls_metrics.proofs.Appends.{three}
 use Rattle.hls_metrics.proofs.measured_metrics.push_process_metrics.Goals as goal

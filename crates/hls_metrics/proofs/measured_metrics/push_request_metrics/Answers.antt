@@ -1,3 +1,4 @@
+-- The metric of requests is appended: its description, and then its rows.
 use Rattle.hls_metrics.specs.Measurements.{request_metrics}
 use Rattle.hls_metrics.proofs.Appends.{two}
 use Rattle.hls_metrics.proofs.measured_metrics.push_request_metrics.Goals as goal

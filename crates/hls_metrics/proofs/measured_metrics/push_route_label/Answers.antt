@@ -1,3 +1,4 @@
+-- The beginning of a row of requests is appended: the metric's name with the open label, and then the route.
 use Rattle.hls_metrics.specs.Measurements.{route_label}
 use Rattle.hls_metrics.proofs.Appends.{two}
 use Rattle.hls_metrics.proofs.measured_metrics.push_route_label.Goals as goal

@@ -1,3 +1,4 @@
+-- The metrics of sync samples are appended: those checked, those that are no places, and those in no segment of the live playlists.
 use Rattle.hls_metrics.specs.Measurements.{sync_metrics}
 use Rattle.hls_metrics.proofs.Appends.{three}
 use Rattle.hls_metrics.proofs.measured_metrics.push_sync_metrics.Goals as goal

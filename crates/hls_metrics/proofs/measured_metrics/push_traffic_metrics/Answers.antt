@@ -1,3 +1,4 @@
+-- The metrics of traffic are appended: accepted connections, bytes read, and bytes written.
 use Rattle.hls_metrics.specs.Measurements.{traffic_metrics}
 use Rattle.hls_metrics.proofs.Appends.{three}
 use Rattle.hls_metrics.proofs.measured_metrics.push_traffic_metrics.Goals as goal

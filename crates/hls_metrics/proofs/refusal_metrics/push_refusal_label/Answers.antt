@@ -1,3 +1,4 @@
+-- The beginning of a row of refusals is appended: the metric's name with the open label, and then the refusal's name.
 use Rattle.hls_metrics.specs.Refusals.{refusal_label}
 use Rattle.hls_metrics.proofs.Appends.{two}
 use Rattle.hls_metrics.proofs.refusal_metrics.push_refusal_label.Goals as goal

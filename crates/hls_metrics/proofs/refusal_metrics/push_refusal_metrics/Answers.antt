@@ -1,3 +1,4 @@
+-- The metric of refusals is appended: its description, and then its rows.
 use Rattle.hls_metrics.specs.Refusals.{refusal_metrics}
 use Rattle.hls_metrics.proofs.Appends.{two}
 use Rattle.hls_metrics.proofs.refusal_metrics.push_refusal_metrics.Goals as goal

@@ -1,3 +1,5 @@
+-- After one more segment, the measure so far and the remaining segments still give the measure of the newest segments; its bytes and microseconds
+-- stay bounded.
 use Rattle.std.proofs.Common.{◌≡◌, suc, length, ap, sym, ◌∙◌, arith}
 use Rattle.std.specs.List.{fold}
 use Rattle.hls_places_laws.specs.declared.line.live_segment.LiveSegment.{LiveSegment}

@@ -1,3 +1,5 @@
+-- Before each round, the measure so far and the remaining segments give the measure of the newest segments. Each segment adds limited bytes and
+-- microseconds, and there are at most 256; so the sums can't overflow.
 use Rattle.std.proofs.Common.{◌≡◌, ◌+◌, ◌*◌, ◌^◌, ◌≤◌, length}
 use Rattle.std.specs.List.{fold}
 use Rattle.hls_places_laws.specs.Line.Live.{segments_of}

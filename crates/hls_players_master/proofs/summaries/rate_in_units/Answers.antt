@@ -1,3 +1,4 @@
+-- Each number from the first of the newest units on finds a kept unit, and its durations join those before within the bounds of eight units.
 use Rattle.std.proofs.Common.{◌≡◌, ◌+◌, ◌-◌, Some, ap, sym, ◌∙◌, arith}
 use Rattle.std.specs.List.{fold}
 use Rattle.std.specs.Prelude.{List, ℕ, option_and_then}

@@ -1,3 +1,5 @@
+-- Before each round, the durations found so far and the remaining units give those of the newest units; of these there are at most eight, all
+-- kept.
 use Rattle.std.proofs.Common.{◌≡◌, ◌+◌, ◌-◌, ◌≤◌, drop, None, IfSome}
 use Rattle.std.specs.List.{fold}
 use Rattle.hls_codecs.specs.FrameRates.{IsModest}

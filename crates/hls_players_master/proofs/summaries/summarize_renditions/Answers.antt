@@ -1,3 +1,4 @@
+-- Each rendition with a recording adds its summary; one without a recording leaves no result.
 use Rattle.std.proofs.Common.{◌≡◌, ◌<◌, ◌≤◌, length, get_or, arith}
 use Rattle.hls_players_master.specs.Summaries.{summaries_of}
 use Rattle.hls_players_master.proofs.SummaryLaws.{summaries-missing, summaries-next, summaries-end}

@@ -1,3 +1,4 @@
+-- Before each round, the summaries so far, with those of the remaining renditions if each has one, are the summaries of all.
 use Rattle.std.proofs.Common.{◌≡◌, ◌-◌, ◌≤◌, length, drop}
 use Rattle.hls_players_master.specs.Summaries.{summaries_from, summaries_of}
 use Rattle.hls_players_master.proofs.SummaryLaws.{with_others}

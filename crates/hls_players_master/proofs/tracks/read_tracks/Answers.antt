@@ -1,3 +1,5 @@
+-- If a track isn't understood or is the second of its kind, the init section has no known tracks. Otherwise the remaining tracks give the same
+-- result, and at the end it is the tracks found.
 use Rattle.std.proofs.Common.{◌≡◌, ◌+◌, ◌-◌, sym, ◌∙◌, arith}
 use Rattle.hls_players_master.proofs.TrackLaws.{tracks-end, tracks-bad, tracks-next}
 use Rattle.hls_players_master.proofs.tracks.read_tracks.Goals as goal

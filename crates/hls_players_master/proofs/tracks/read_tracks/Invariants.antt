@@ -1,3 +1,4 @@
+-- Before each round, the tracks known so far and the remaining ones give the result of all tracks.
 use Rattle.std.proofs.Common.{◌≡◌, ◌-◌, ◌≤◌}
 use Rattle.hls_players_master.specs.Tracks.{no_tracks, tracks_from}
 use Rattle.hls_players_master.proofs.tracks.read_tracks.Given as goal

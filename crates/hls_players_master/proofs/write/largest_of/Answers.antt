@@ -1,3 +1,5 @@
+-- After one more rendition, the highest rates so far and the remaining renditions still give the highest rates of the audio group; at the end
+-- none remain.
 use Rattle.std.proofs.Common.{ap, sym, ◌∙◌, drop, ◌∷◌, ◌+◌, arith}
 use Rattle.std.proofs.lemmas.List.{drop_more, drop_all}
 use Rattle.std.specs.List.{fold}

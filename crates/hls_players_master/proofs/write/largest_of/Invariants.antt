@@ -1,3 +1,4 @@
+-- Before each round, the highest rates so far and the remaining renditions give the highest rates of the audio group.
 use Rattle.std.proofs.Common.{◌≡◌, ◌-◌, ◌≤◌, length, drop}
 use Rattle.std.specs.List.{fold}
 use Rattle.hls_players_master.specs.Text.{larger_in, no_rates}

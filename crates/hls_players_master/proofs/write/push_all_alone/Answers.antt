@@ -1,3 +1,5 @@
+-- After one more variant stream of a rendition alone, the text so far and the lines of the remaining renditions are still the whole text; at the
+-- end none remain.
 use Rattle.std.proofs.Common.{◌++◌, arith}
 use Rattle.hls_m3u8.specs.Lines.{text_of_lines}
 use Rattle.hls_players_master.specs.Text.{variants_alone}

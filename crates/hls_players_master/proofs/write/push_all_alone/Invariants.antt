@@ -1,3 +1,4 @@
+-- Before each round, the text so far and the lines of the remaining renditions, each alone in a variant stream, are the whole text.
 use Rattle.std.proofs.Common.{◌≡◌, ◌-◌, ◌≤◌, ◌++◌, length, drop}
 use Rattle.hls_m3u8.specs.Lines.{text_of_lines}
 use Rattle.hls_players_master.specs.Text.{variants_alone}

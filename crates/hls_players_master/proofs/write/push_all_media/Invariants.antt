@@ -1,3 +1,4 @@
+-- Before each round, the text so far and the EXT-X-MEDIA lines of the remaining renditions, after those passed, are the whole text.
 use Rattle.std.proofs.Common.{◌≡◌, ◌-◌, ◌≤◌, ◌++◌, [], length, take, drop}
 use Rattle.hls_m3u8.specs.Lines.{text_of_lines}
 use Rattle.hls_players_master.specs.Text.{media_lines}

@@ -1,3 +1,4 @@
+-- The EXT-X-MEDIA lines of all renditions are appended, and then the variant streams of the video renditions.
 use Rattle.std.proofs.Common.{[]}
 use Rattle.hls_players_master.specs.Text.{media_lines, variants_of_videos}
 use Rattle.hls_players_master.proofs.LineLaws.{both-written}

@@ -1,3 +1,5 @@
+-- After one more rendition, the text so far and the variant streams of the video rendition with the remaining audio groups are still the whole
+-- text; at the end none remain.
 use Rattle.std.proofs.Common.{◌++◌, [], arith}
 use Rattle.hls_m3u8.specs.Lines.{text_of_lines}
 use Rattle.hls_players_master.specs.Text.{variants_with}

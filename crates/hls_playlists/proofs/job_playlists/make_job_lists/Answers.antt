@@ -1,3 +1,5 @@
+-- After one more playlist is made, the lists so far and those of the remaining renditions are still all, and the recordings used so far are
+-- valid. So at the end all recordings are.
 use Rattle.std.proofs.Common.{◌≤◌, All, Bor, length, arith, subst}
 use Rattle.std.proofs.lemmas.List.{take_all}
 use Rattle.std.proofs.lemmas.List.Elements.{All-more}
@@ -6,6 +8,7 @@ use Rattle.hls_record.specs.IsRecorded.{IsRecorded}
 use Rattle.hls_playlists.proofs.ListLoop.{one_list_more}
 use Rattle.hls_playlists.proofs.job_playlists.make_job_lists.Goals as goal
 
+-- a borrowed recording satisfies the invariant of recordings
 abbrev pub Good : Bor RecordingData → Type 0
 Good r = IsRecorded r.now
 

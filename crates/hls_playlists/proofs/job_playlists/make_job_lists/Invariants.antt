@@ -1,3 +1,5 @@
+-- Before each round, the playlists so far and those of the remaining renditions are all playlists of the job; the recordings used so far are
+-- valid.
 use Rattle.std.proofs.Common.{◌≡◌, ◌++◌, map, take, drop, All}
 use Rattle.hls_record.specs.IsRecorded.{IsRecorded}
 use Rattle.hls_m3u8.specs.Playlist.{playlist_of}

@@ -1,3 +1,4 @@
+-- The marks so far and those of the segments left are the marks of the first n segments.
 use Rattle.std.proofs.Common.{◌≡◌, ℕ, suc, ◌+◌, ◌-◌, length, arith, ap}
 use Rattle.hls_places_laws.specs.Line.Lengths.{marks_in}
 use Rattle.hls_playlists.proofs.ShortTexts.{mark-few, marks-next}

@@ -1,9 +1,11 @@
+-- Before each round, the marks counted so far and those of the remaining segments are the marks of the first `n`; there are at most as many as
+-- segments passed.
 use Rattle.std.proofs.Common.{◌≡◌, ◌+◌, ◌-◌, ◌≤◌, length}
 use Rattle.hls_places_laws.specs.Line.Lengths.{marks_in}
 use Rattle.hls_places_laws.specs.Line.Live.{segments_of}
 use Rattle.hls_playlists.proofs.live_writer.count_marks.Given as goal
 
--- with those of the segments that aren't read yet they are all
+-- the marks so far and those of the segments left are the marks of the first n
 abbrev pub invariant-loop-next : goal.invariant-loop-next
 invariant-loop-next l = record {
   within : l.next ≤ l.n;

@@ -1,3 +1,4 @@
+-- By cases: no recording, no segment closed yet, or the live playlist that is made from the recording.
 use Rattle.std.proofs.Common.{◌≡◌, length, Some, None, arith, ap}
 use Rattle.hls_blocks.specs.Numbered.{next_of}
 use Rattle.hls_core.specs.Getters.{recording_of}

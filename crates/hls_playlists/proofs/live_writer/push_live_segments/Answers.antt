@@ -1,3 +1,4 @@
+-- Each step writes the next segment of the walk, which the laws of live playlists say can be written, and keeps the text complete.
 use Rattle.std.proofs.Common.{◌≡◌, ◌∙◌, ℕ, ◌+◌, ◌<◌, ◌^◌, ◌++◌, length, arith, ap, subst, sym}
 use Rattle.hls_m3u8.specs.declared.playlist.MediaSegment.{MediaSegment}
 use Rattle.hls_m3u8.specs.HasText.{IsDate}

@@ -1,3 +1,4 @@
+-- Before each round, the text so far and that of the remaining segments are the complete text, and the walk is at the next segment to be written.
 use Rattle.std.proofs.Common.{◌≡◌, ◌-◌, ◌++◌, drop}
 use Rattle.hls_core_laws.specs.Line.{line}
 use Rattle.hls_places_laws.specs.Line.Live.{segments_of}

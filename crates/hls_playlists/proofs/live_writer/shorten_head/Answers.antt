@@ -1,3 +1,4 @@
+-- Without the first segments, both sequence numbers fit: at most as many marks as segments are left out, and the next segment's number fits.
 use Rattle.std.proofs.Common.{arith, ap}
 use Rattle.hls_blocks.specs.Numbered.{next_of}
 use Rattle.hls_playlists.proofs.live_writer.shorten_head.Goals as goal

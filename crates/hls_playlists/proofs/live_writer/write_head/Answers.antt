@@ -1,3 +1,4 @@
+-- The head of a playlist without segments is that of the served one, so with the rest it is the served playlist's text.
 use Rattle.std.proofs.Common.{◌∙◌, ℕ, List, ◌++◌, ap}
 use Rattle.hls_core_laws.specs.Base.{BaseData}
 use Rattle.hls_core_laws.specs.Config.{ConfigData}

@@ -1,3 +1,4 @@
+-- The head counts the marks of the first n segments, so that with the rest it is the shortened playlist's text.
 use Rattle.std.proofs.Common.{◌∙◌, ℕ, List, ◌++◌, ap, arith}
 use Rattle.hls_places_laws.specs.Line.Lengths.{marks_in}
 use Rattle.hls_places_laws.specs.Line.Live.{Live, segments_of}

@@ -1,3 +1,5 @@
+-- If a state has a playlist of the last segments, a state that follows it has one too, and that one is valid as a later one (RFC 8216 section
+-- 6.2.2).
 use Rattle.hls_playlists.proofs.RecentLists.{recent-lists-follow}
 use Rattle.hls_playlists.proofs.recent_list.recent_lists_follow.Goals as goal
 

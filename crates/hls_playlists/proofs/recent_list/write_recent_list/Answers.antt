@@ -1,3 +1,5 @@
+-- The text is that of the playlist by paths without as many segments as the line can hide and still show the given time and three target
+-- durations.
 use Rattle.std.proofs.Common.{◌≡◌, ◌∙◌, ℕ, None, IfOk, ap, subst}
 use Rattle.std.specs.Option.{option_map}
 use Rattle.hls_places_laws.specs.Line.Live.{Live}

@@ -1,3 +1,4 @@
+-- At the start no segment is made, and all places of the plan are in the table, so the invariant holds.
 use Rattle.std.proofs.Common.{◌≡◌, ℕ, ◌<◌, ◌∷◌, length, All, refl, subst}
 use Rattle.std.proofs.lemmas.List.Elements.{All-head, All-tail}
 use Rattle.hls_playlists.proofs.segments.make_plan_segments.Goals as goal

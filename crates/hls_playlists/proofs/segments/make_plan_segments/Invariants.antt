@@ -1,3 +1,5 @@
+-- Before each round, the segments made so far and those of the remaining steps are all segments of the plan, and all places still to come are in
+-- the table.
 use Rattle.std.proofs.Common.{◌≡◌, ◌<◌, ◌++◌, false, length, drop, All}
 use Rattle.hls_check_tables.specs.Tables.{IsTable}
 use Rattle.hls_playlists_laws.specs.Segments.{plan_segments_from}

@@ -1,3 +1,5 @@
+-- All segments of the live line start below 2^53 microseconds in the rendition, so they can be made; the playlist made from them is the state's
+-- live playlist.
 use Rattle.std.proofs.Common.{◌<◌, ◌^◌, All, subst, Some, sym, ap, ◌∙◌}
 use Rattle.hls_core_laws.specs.Config.{ConfigData}
 use Rattle.hls_check_tables.specs.Tables.{spot_in}

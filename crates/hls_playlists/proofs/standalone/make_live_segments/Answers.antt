@@ -1,3 +1,4 @@
+-- After one more segment is made, the list so far and the segments of the remaining walk are still those of the live line.
 use Rattle.std.proofs.Common.{◌<◌, ◌^◌, ◌∷◌, All, subst}
 use Rattle.std.proofs.lemmas.List.Elements.{All-tail}
 use Rattle.hls_check_tables.specs.Tables.{spot_in}

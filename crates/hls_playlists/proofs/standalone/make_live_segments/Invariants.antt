@@ -1,3 +1,5 @@
+-- Before each round, the segments made so far and those of the remaining walk are all segments of the line; each of the walk has a start below
+-- 2^53.
 use Rattle.std.proofs.Common.{◌≡◌, ◌++◌, ◌<◌, ◌^◌, length, map, All}
 use Rattle.hls_check_tables.specs.Tables.{spot_in}
 use Rattle.hls_places_laws.specs.Line.Live.{segments_of}

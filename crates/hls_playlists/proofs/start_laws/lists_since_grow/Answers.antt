@@ -1,3 +1,5 @@
+-- In a state that follows one with a playlist since a time, that playlist begins with the same segment and is valid as a later one, or its first
+-- segment was removed.
 use Rattle.hls_playlists.proofs.SinceLists.{lists-since-grow}
 use Rattle.hls_playlists.proofs.start_laws.lists_since_grow.Goals as goal
 

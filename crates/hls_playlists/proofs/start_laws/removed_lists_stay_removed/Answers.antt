@@ -1,3 +1,4 @@
+-- If the first segment of a playlist since a time was removed, it is so in each later state.
 use Rattle.hls_playlists.proofs.SinceLists.{removed-stay-removed}
 use Rattle.hls_playlists.proofs.start_laws.removed_lists_stay_removed.Goals as goal
 

@@ -1,3 +1,4 @@
+-- Counting one more segment doesn't overflow: the count is at most the number of the line's segments, whose numbers fit.
 use Rattle.std.proofs.Common.{length, arith, ap}
 use Rattle.hls_playlists.proofs.start_time.count_started.Goals as goal
 

@@ -1,9 +1,10 @@
+-- Before each round, the segments counted so far and those of the remaining walk that start at the time or before it are all such segments.
 use Rattle.std.proofs.Common.{◌≡◌, ◌+◌, length}
 use Rattle.hls_places_laws.specs.Line.Live.{segments_of}
 use Rattle.hls_playlists.specs.StartTimes.{count_started}
 use Rattle.hls_playlists.proofs.start_time.count_started.Given as goal
 
--- with those that aren't read yet they are all
+-- the count so far and that of the segments left are the whole count
 abbrev pub invariant-loop-segment : goal.invariant-loop-segment
 invariant-loop-segment l = record {
   left : l.count + length l.walk ≡ length (segments_of l.line);

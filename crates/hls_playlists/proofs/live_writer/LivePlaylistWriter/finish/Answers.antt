@@ -1,3 +1,4 @@
+-- All of the line's segments are written, so with the end's line the text is complete.
 use Rattle.std.proofs.Common.{◌≡◌, ◌∙◌, ℕ, ◌≤◌, Bool, List, ◌++◌, length, arith, ap, sym}
 use Rattle.hls_blocks.specs.Numbered.{next_of}
 use Rattle.hls_places_laws.specs.Line.Live.{Live, segments_of, has_ended}
