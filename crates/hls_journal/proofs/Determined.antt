@@ -12,10 +12,11 @@ use Rattle.hls_core_laws.specs.Config.{ConfigData, IsEpoch, IsRendition, is_name
 use Rattle.hls_journal.specs.Channels.{config_bytes, epoch_bytes, name_bytes, rendition_bytes}
 use Rattle.hls_journal.specs.Laws.{BytesDetermineConfigurations}
 
--- parts of the same length at the front of equal texts are equal, and so is the rest
+-- parts of the same length at the front of equal texts are equal
 same_front : (a b x y : List ℕ) (n : ℕ) → length a ≡ n → length b ≡ n → a ++ x ≡ b ++ y → a ≡ b
 same_front a b x y n la lb same = sym (take_at a x n la) ∙ ap (λ t. take n t) same ∙ take_at b y n lb
 
+-- after parts of the same length, the rests of equal texts are equal
 same_rest : (a b x y : List ℕ) (n : ℕ) → length a ≡ n → length b ≡ n → a ++ x ≡ b ++ y → x ≡ y
 same_rest a b x y n la lb same = sym (drop_at a x n la) ∙ ap (λ t. drop n t) same ∙ drop_at b y n lb
 
@@ -27,31 +28,36 @@ same_number : (n m : ℕ) (x y : List ℕ) → n < 2 ^ 64 → m < 2 ^ 64 → lit
 same_number n m x y small few same =
     sym (little_number-reads_back 8 n x (omega (arith, small))) ∙ ap (λ t. little_number 8 t) same ∙ little_number-reads_back 8 m y (omega (arith, few))
 
+-- what follows the eight bytes of a number is determined, too
 number_rest : (n m : ℕ) (x y : List ℕ) → little_bytes 8 n ++ x ≡ little_bytes 8 m ++ y → x ≡ y
 number_rest n m x y same = same_rest (little_bytes 8 n) (little_bytes 8 m) x y 8 (eight n) (eight m) same
 
--- so is a flag
+-- texts that are equal begin with the same byte
 same_head : (a b : ℕ) (x y : List ℕ) → a ∷ x ≡ b ∷ y → a ≡ b
 same_head a b x y same = cc
 
+-- texts that are equal are equal after their first byte
 same_tail : (a b : ℕ) (x y : List ℕ) → a ∷ x ≡ b ∷ y → x ≡ y
 same_tail a b x y same = ap (λ t. drop 1 t) same
 
+-- a flag is determined by its byte
 same_flag : (a b : Bool) → from_bool a ≡ from_bool b → a ≡ b
 same_flag true true same = refl
 same_flag true false same = absurd (omega (arith, same))
 same_flag false true same = absurd (omega (arith, same))
 same_flag false false same = refl
 
--- a name has no zero byte
+-- a byte of a name is above 0
 no_zero : (b : ℕ) → IsTrue (is_name_byte b) → 0 < b
 no_zero zero named = let no : false ≡ true = named in absurd cc
 no_zero (suc b) named = omega arith
 
+-- a text of zeros doesn't begin with a byte above 0
 zeros_alike : (n m : ℕ) (b : ℕ) (bs : List ℕ) → 0 < b → replicate n 0 ≡ b ∷ bs ++ replicate m 0 → ⊥
 zeros_alike zero m b bs some same = absurd cc
 zeros_alike (suc n) m b bs some same = omega (arith, some, same_head 0 b (replicate n 0) (bs ++ replicate m 0) same)
 
+-- a name is determined by its bytes and the zeros that fill it up
 same_name : (a b : List ℕ) (n m : ℕ) → All (λ x. IsTrue (is_name_byte x)) a → All (λ x. IsTrue (is_name_byte x)) b → a ++ replicate n 0 ≡ b ++ replicate m 0 → a ≡ b
 same_name [] [] n m named other same = refl
 same_name [] (b ∷ bs) n m named other same = absurd (zeros_alike n m b bs (no_zero b (other 0 0 (omega arith))) same)
@@ -62,20 +68,23 @@ same_name (x ∷ xs) (b ∷ bs) n m named other same =
     same_name xs bs n m (λ k d lt. named (suc k) d (omega (arith, lt))) (λ k d lt. other (suc k) d (omega (arith, lt))) (same_tail x b (xs ++ replicate n 0) (bs ++ replicate m 0) same) in
     ap (λ y. y ∷ xs) heads ∙ ap (λ ys. b ∷ ys) tails
 
+-- a name of at most 32 bytes is filled up to 32
 name_len : (name : List ℕ) → length name ≤ 32 → length (name_bytes name) ≡ 32
 name_len name short = omega (arith, short, length-append name (replicate (32 - length name) 0), length-replicate {A = ℕ} (32 - length name) 0)
 
--- a rendition is determined by its bytes, whatever follows them
+-- the bytes of a rendition and what follows are its name, its flag, its two numbers, and what follows
 rendition_parts : (r : Rendition) (more : List ℕ) → rendition_bytes r ++ more ≡ name_bytes r.name ++ (from_bool r.video ∷ (little_bytes 8 r.bandwidth ++ (little_bytes 8 r.tolerance ++ more)))
 rendition_parts r more =
     append_assoc (name_bytes r.name ++ (from_bool r.video ∷ []) ++ little_bytes 8 r.bandwidth) (little_bytes 8 r.tolerance) more
     ∙ append_assoc (name_bytes r.name ++ (from_bool r.video ∷ [])) (little_bytes 8 r.bandwidth) (little_bytes 8 r.tolerance ++ more)
     ∙ append_assoc (name_bytes r.name) (from_bool r.video ∷ []) (little_bytes 8 r.bandwidth ++ (little_bytes 8 r.tolerance ++ more))
 
+-- two renditions are equal, and so are the texts that follow their bytes
 record SameRendition (r s : Rendition) (x y : List ℕ) : Type 0 where
   is : r ≡ s
   rest : x ≡ y
 
+-- a rendition is determined by its bytes, whatever follows them, and so is what follows
 same_rendition : (r s : Rendition) (x y : List ℕ) → IsRendition r → IsRendition s → rendition_bytes r ++ x ≡ rendition_bytes s ++ y → SameRendition r s x y
 same_rendition r s x y one other same =
     let whole : name_bytes r.name ++ (from_bool r.video ∷ (little_bytes 8 r.bandwidth ++ (little_bytes 8 r.tolerance ++ x))) ≡ name_bytes s.name ++ (from_bool s.video ∷ (little_bytes 8 s.bandwidth ++ (little_bytes 8 s.tolerance ++ y))) =
@@ -100,6 +109,7 @@ same_rendition r s x y one other same =
       rest = number_rest r.tolerance s.tolerance x y last;
     }
 
+-- a rendition has at least one byte
 some_bytes : (r : Rendition) (more : List ℕ) → length (rendition_bytes r ++ more) ≡ 0 → ⊥
 some_bytes r more none =
     omega (
@@ -109,7 +119,7 @@ some_bytes r more none =
       length-append (name_bytes r.name) (from_bool r.video ∷ (little_bytes 8 r.bandwidth ++ (little_bytes 8 r.tolerance ++ more))),
     )
 
--- so are all of them
+-- all renditions are determined by their bytes
 same_renditions : (rs ss : List Rendition) → ((n : ℕ) (r : Rendition) → slice_get rs n ≡ Some r → IsRendition r) → ((n : ℕ) (r : Rendition) → slice_get ss n ≡ Some r → IsRendition r) → flat_map rendition_bytes rs ≡ flat_map rendition_bytes ss → rs ≡ ss
 same_renditions [] [] one other same = refl
 same_renditions [] (s ∷ ss) one other same = absurd (some_bytes s (flat_map rendition_bytes ss) (sym (ap length same)))
@@ -118,16 +128,18 @@ same_renditions (r ∷ rs) (s ∷ ss) one other same =
     let first = same_rendition r s (flat_map rendition_bytes rs) (flat_map rendition_bytes ss) (one 0 r refl) (other 0 s refl) same in
     ap (λ x. x ∷ rs) first.is ∙ ap (λ xs. s ∷ xs) (same_renditions rs ss (λ n x at. one (suc n) x at) (λ n x at. other (suc n) x at) first.rest)
 
--- an epoch is determined by its bytes
+-- an epoch's microseconds are below 2^64
 epoch_small : (us : ℤ) → IsEpoch (Some us) → unsigned_abs us < 2 ^ 64
 epoch_small (pos n) is = omega (arith, ints, is.1)
 epoch_small (negsuc n) is = absurd (omega (arith, ints, is.0))
 
+-- two epochs with the same number of microseconds are equal, as neither is negative
 same_epochs : (us them : ℤ) → IsEpoch (Some us) → IsEpoch (Some them) → unsigned_abs us ≡ unsigned_abs them → us ≡ them
 same_epochs (pos n) (pos m) one other same = ap pos same
 same_epochs (pos n) (negsuc m) one other same = absurd (omega (arith, ints, other.0))
 same_epochs (negsuc n) them one other same = absurd (omega (arith, ints, one.0))
 
+-- an epoch, or its absence, is determined by its bytes, whatever follows them
 same_epoch : (a b : Option ℤ) (x y : List ℕ) → IsEpoch a → IsEpoch b → epoch_bytes a ++ x ≡ epoch_bytes b ++ y → a ≡ b
 same_epoch None None x y one other same = refl
 same_epoch None (Some us) x y one other same = absurd (omega (arith, same_head 0 1 (little_bytes 8 0 ++ x) (little_bytes 8 (unsigned_abs us) ++ y) same))
@@ -136,16 +148,18 @@ same_epoch (Some us) (Some them) x y one other same =
     let rest : little_bytes 8 (unsigned_abs us) ++ x ≡ little_bytes 8 (unsigned_abs them) ++ y = same_tail 1 1 (little_bytes 8 (unsigned_abs us) ++ x) (little_bytes 8 (unsigned_abs them) ++ y) same in
     ap Some (same_epochs us them one other (same_number (unsigned_abs us) (unsigned_abs them) x y (epoch_small us one) (epoch_small them other) rest))
 
+-- an epoch has nine bytes
 pub epoch_len : (a : Option ℤ) → length (epoch_bytes a) ≡ 9
 epoch_len None = refl
 epoch_len (Some us) = omega (arith, eight (unsigned_abs us))
 
+-- the bytes of a configuration are those of its target, its preferred length, its epoch, and its renditions
 config_parts : (c : ConfigData) → config_bytes c ≡ little_bytes 8 c.target ++ (little_bytes 8 c.preferred ++ (epoch_bytes c.epoch ++ flat_map rendition_bytes c.renditions))
 config_parts c =
     append_assoc (little_bytes 8 c.target ++ little_bytes 8 c.preferred) (epoch_bytes c.epoch) (flat_map rendition_bytes c.renditions)
     ∙ append_assoc (little_bytes 8 c.target) (little_bytes 8 c.preferred) (epoch_bytes c.epoch ++ flat_map rendition_bytes c.renditions)
 
--- the fields of a configuration are there
+-- a configuration has at least the 25 bytes of its fields before the renditions
 pub config_len : (c : ConfigData) → 25 ≤ length (config_bytes c)
 config_len c =
     omega (
@@ -159,6 +173,7 @@ config_len c =
       epoch_len c.epoch,
     )
 
+-- configurations with the same bytes are the same, but for their bases
 pub bytes-determine-configurations : BytesDetermineConfigurations
 bytes-determine-configurations c d one other same =
     let whole : little_bytes 8 c.target ++ (little_bytes 8 c.preferred ++ (epoch_bytes c.epoch ++ flat_map rendition_bytes c.renditions)) ≡ little_bytes 8 d.target ++ (little_bytes 8 d.preferred ++ (epoch_bytes d.epoch ++ flat_map rendition_bytes d.renditions)) =

@@ -10,23 +10,24 @@ use Rattle.hls_journal_laws.specs.Heads.{IsHead}
 use Rattle.hls_journal_laws.proofs.Boxes.{IsBox}
 use Rattle.hls_journal_laws.proofs.Joined.{children_joined, children_one}
 
--- the bytes before a place are boxes
+-- the bytes of a unit before this place are whole boxes
 pub record AreBoxes (unit : List ℕ) (at : ℕ) : Type 0 where
   pub boxes : List Child
   pub filled : children (take at unit) ≡ Some boxes
   pub within : at ≤ length unit
 
+-- before the start of a unit there are no boxes
 pub no_boxes : (unit : List ℕ) → AreBoxes unit 0
 no_boxes unit = record { boxes = []; filled = children-empty; within = omega arith }
 
--- the bytes of the header's box
+-- the header at the start of a text is read from its first bytes, if these contain the header
 first_box : (rest : List ℕ) (h : BoxHeader) (n : ℕ) → header_at rest ≡ Some h → h.head ≤ n → n ≤ length rest → header_at (take n rest) ≡ Some h
 first_box rest h n is fits within =
     let all : take n rest ++ drop n rest ≡ rest = take-append-drop n rest in
     let len : length (take n rest) ≡ n = length-take-le n rest within in
     header_at-front (take n rest) (drop n rest) h (ap (λ t. header_at t) all ∙ is) (omega (arith, len, fits))
 
--- one more box
+-- if whole boxes precede a box that fits in the unit, whole boxes precede its end
 pub one_more_box : (unit : List ℕ) (at size : ℕ) (h : BoxHeader) → AreBoxes unit at → header_at (drop at unit) ≡ Some h → h.size ≡ size → h.head ≤ size → size ≤ length (drop at unit) → AreBoxes unit (at + size)
 one_more_box unit at size h so_far is size_is fits within =
     let len : length (take size (drop at unit)) ≡ size = length-take-le size (drop at unit) within in
@@ -39,7 +40,7 @@ one_more_box unit at size h so_far is size_is fits within =
       within = omega (arith, within, length-drop at unit, so_far.within);
     }
 
--- the head ends after the header of the `mdat`
+-- if whole boxes precede the header of an `mdat` that ends the unit, the bytes up to the header's end are the unit's head
 pub head_found : (unit : List ℕ) (at head : ℕ) (h : BoxHeader) → AreBoxes unit at → header_at (drop at unit) ≡ Some h → h.head ≡ head → (h.kind == mdat_type) ≡ true → head ≤ h.size → h.size ≡ length (drop at unit)
     → (at + head ≤ length unit) × IsHead (take (at + head) unit) (length unit - (at + head))
 head_found unit at head h so_far is head_is kind fits whole =

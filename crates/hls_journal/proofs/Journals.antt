@@ -12,23 +12,26 @@ use Rattle.hls_journal.specs.declared.fault.JournalFault.TheVariants.{NoChannel}
 use Rattle.hls_journal.specs.Channels.{channel_bytes, IsChannelFault}
 use Rattle.hls_journal.specs.Faults.{IsRestoreFault, IsJournalFault}
 
--- a list that begins with a body
+-- a list that has a body at number 0 is this body and the rest
 pub first_body : (bodies : List (List ℕ)) (body : List ℕ) → slice_get bodies 0 ≡ Some body → bodies ≡ body ∷ drop 1 bodies
 first_body [] body at = cc
 first_body (b ∷ bodies) body at = let same : b ≡ body = cc in ap (λ x. x ∷ bodies) same
 
+-- a list that has no body at number 0 is empty
 no_bodies : (bodies : List (List ℕ)) → slice_get bodies 0 ≡ None → bodies ≡ []
 no_bodies [] none = refl
 no_bodies (b ∷ bodies) none = cc
 
--- there is no record
+-- a journal without records has no channel
 pub no_records : (config : ConfigData) (media : List StoredMedia) (bodies : List (List ℕ)) → slice_get bodies 0 ≡ None → IsJournalFault config media bodies NoChannel
 no_records config media bodies none = inl (no_bodies bodies none, refl)
 
+-- a journal restores no channel if its first record isn't the channel's
 pub channel_fails : (config : ConfigData) (media : List StoredMedia) (bodies : List (List ℕ)) (channel : List ℕ) (fault : JournalFault) → slice_get bodies 0 ≡ Some channel → IsChannelFault config channel fault
     → IsJournalFault config media bodies fault
 channel_fails config media bodies channel fault at why = inr (inl (record { channel = channel; records = drop 1 bodies; is = first_body bodies channel at; why = why }))
 
+-- a journal restores no channel if its first record is the channel's, but the others fail
 pub records_fail : {T : Type 0} → (r : Result T JournalFault) (config : ConfigData) (media : List StoredMedia) (bodies : List (List ℕ)) (channel : List ℕ) (header : ChannelHeader) → slice_get bodies 0 ≡ Some channel
     → channel ≡ channel_bytes config header
     → IfErr r (IsRestoreFault (highest_floor (drop 1 bodies)) media (first_state (config_after config header.base)) (drop 1 bodies)) → IfErr r (IsJournalFault config media bodies)

@@ -1,3 +1,5 @@
+-- The lemmas on records of a channel and its events: bodies that are made and read back, heads of units, floors and ids,
+-- stored units, and why a record restores nothing.
 pub mod Blocks
 pub mod Recorded
 pub mod Restored

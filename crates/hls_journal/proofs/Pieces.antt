@@ -13,25 +13,26 @@ use Rattle.hls_journal.specs.declared.fault.RecallFault.TheVariants.{Memory, Wro
 use Rattle.hls_journal.specs.Faults.{AreInOrder, IsInOrder, IsStoredFault}
 use Rattle.hls_journal.specs.Pieces.{IsBeforePieces, IsPieceAt, IsInPieceOf, IsPieceFault}
 
+-- an option has only one value
 pub same_some : {X : Type 0} → (o : Option X) (x y : X) → o ≡ Some x → o ≡ Some y → y ≡ x
 same_some o x y one other = cc
 
--- what a list has at a place it contains
+-- a list contains the piece that it has at a place
 has_piece : (pieces : List MediaPiece) (k : ℕ) (p : MediaPiece) → slice_get pieces k ≡ Some p → Contains pieces p
 has_piece pieces k p at =
     let within = slice_get_within pieces k p at in
     (k, within, same_some (slice_get pieces k) p (get_or pieces k p) at (slice_get-get_or pieces k p within))
 
--- and what it contains is at a place
+-- a piece that a list contains is at some place of it
 place_of : (pieces : List MediaPiece) (p : MediaPiece) → Contains pieces p → (k : ℕ) × (slice_get pieces k ≡ Some p)
 place_of pieces p has = (has.0, slice_get-get_or pieces has.0 p has.1 ∙ ap Some has.2)
 
--- the piece at the place after another one
+-- if a list has a piece at a place, it has one at each earlier place
 at_next : (pieces : List MediaPiece) (k i : ℕ) (p : MediaPiece) → k < i → slice_get pieces i ≡ Some p → (q : MediaPiece) × (slice_get pieces k ≡ Some q)
 at_next pieces k i p before at =
     (get_or pieces k p, slice_get-get_or pieces k p (omega (arith, before, slice_get_within pieces i p at)))
 
--- a later piece begins after this offset, if an earlier one does
+-- if a piece begins after an offset, so does each later one
 begins_later : (pieces : List MediaPiece) (k i at : ℕ) (p : MediaPiece) → AreInOrder pieces → k ≤ i → slice_get pieces i ≡ Some p → ((q : MediaPiece) → slice_get pieces k ≡ Some q → at < q.start) → at < p.start
 begins_later pieces k i at p order reached is later =
     elim (cases_eq k i) [
@@ -42,14 +43,14 @@ begins_later pieces k i at p order reached is later =
           omega (arith, later q.0 q.1, order k i q.0 p before q.1 is))
     ]
 
--- no piece has a unit at an offset before all
+-- no piece has bytes at an offset before the first one
 pub no_piece : (pieces : List MediaPiece) (at len : ℕ) (p : MediaPiece) (bytes : List ℕ) → IsBeforePieces pieces at → AreInOrder pieces → Contains pieces p → IsInPiece p at len bytes → ⊥
 no_piece pieces at len p bytes none order has is =
     let place = place_of pieces p has in
     let later = begins_later pieces 0 place.0 at p order (omega arith) place.1 none in
     omega (arith, later, is.0)
 
--- the unit at an offset can be in one piece only
+-- only the last piece that begins at or before an offset can have a unit there
 pub only_piece : (pieces : List MediaPiece) (at len : ℕ) (c p : MediaPiece) (bytes : List ℕ) → IsPieceAt pieces at c → AreInOrder pieces → Contains pieces p → 0 < len → IsInPiece p at len bytes → p ≡ c
 only_piece pieces at len c p bytes found order has some is =
     let place = place_of pieces p has in
@@ -63,11 +64,11 @@ only_piece pieces at len c p bytes found order has some is =
           ])
     ]
 
--- the media have what the piece has
+-- the media have the unit that the piece at its offset has
 pub stored_in_piece : (media : Option StoredMedia) (m : StoredMedia) (at : ℕ) (c : MediaPiece) (body bytes : List ℕ) → media ≡ Some m → IsPieceAt m.pieces.items at c → IsInPieceOf c at body bytes → IsStoredIn media at body bytes
 stored_in_piece media m at c body bytes is found has = (m, is, (c, has_piece m.pieces.items found.place c found.is, has.0), has.1)
 
--- and nothing else
+-- a unit that the media have is in the piece at its offset
 pub only_stored : (media : Option StoredMedia) (m : StoredMedia) (at : ℕ) (c : MediaPiece) (body bytes : List ℕ) → media ≡ Some m → IsPieceAt m.pieces.items at c → IsInOrder media → 0 < unit_len_in body
     → IsStoredIn media at body bytes → IsInPieceOf c at body bytes
 only_stored media m at c body bytes is found order some stored =
@@ -76,13 +77,14 @@ only_stored media m at c body bytes is found order some stored =
     let piece : has.0 ≡ c = only_piece m.pieces.items at (unit_len_in body) c has.0 bytes found (order m is) has.1 some has.2 in
     (subst (λ (x : MediaPiece). IsInPiece x at (unit_len_in body) bytes) piece has.2, stored.3)
 
+-- the media have no unit at an offset before the first piece
 pub none_stored : (media : Option StoredMedia) (m : StoredMedia) (at : ℕ) (body bytes : List ℕ) → media ≡ Some m → IsBeforePieces m.pieces.items at → IsInOrder media → IsStoredIn media at body bytes → ⊥
 none_stored media m at body bytes is none order stored =
     let one : stored.0 ≡ m = same_some media m stored.0 is stored.1 in
     let has : IsStored m at (unit_len_in body) bytes = subst (λ (x : StoredMedia). IsStored x at (unit_len_in body) bytes) one stored.2 in
     no_piece m.pieces.items at (unit_len_in body) has.0 bytes none (order m is) has.1 has.2
 
--- two stored units of one record are equal, since no other piece has the second
+-- two stored units of one record are equal
 pub same_stored : (media : Option StoredMedia) (at : ℕ) (body one other : List ℕ) → IsInOrder media → 0 < unit_len_in body → IsStoredIn media at body one → IsStoredIn media at body other → other ≡ one
 same_stored media at body one other order some first second =
     let m = first.0 in
@@ -104,13 +106,14 @@ same_stored media at body one other order some first second =
     ] in
     has.2.2 ∙ ap (λ (x : MediaPiece). slice_range x.bytes (at - x.start) (at - x.start + unit_len_in body)) pieces_are ∙ sym a.2.2
 
--- the search: the piece before `low` begins at this offset or before, and the one at `high` after it
+-- the search for a piece is between `low` and `high`: pieces before `low` begin at or before the offset, those from `high` on after it
 pub record Halves (pieces : List MediaPiece) (at low high : ℕ) : Type 0 where
   pub order : low ≤ high
   pub within : high ≤ length pieces
   pub begun : (p : MediaPiece) → 0 < low → slice_get pieces (low - 1) ≡ Some p → p.start ≤ at
   pub later : (q : MediaPiece) → slice_get pieces high ≡ Some q → at < q.start
 
+-- the search begins with all pieces
 pub all_halves : (pieces : List MediaPiece) (at : ℕ) → Halves pieces at 0 (length pieces)
 all_halves pieces at =
     record {
@@ -120,6 +123,7 @@ all_halves pieces at =
       later = λ q is. omega (arith, slice_get_within pieces (length pieces) q is);
     }
 
+-- if the middle piece begins at or before the offset, the search continues above it
 pub upper_half : (pieces : List MediaPiece) (at low high middle : ℕ) (p : MediaPiece) → Halves pieces at low high → middle < high → slice_get pieces middle ≡ Some p → p.start ≤ at → Halves pieces at (middle + 1) high
 upper_half pieces at low high middle p halves below is begins =
     let back : middle + 1 - 1 ≡ middle = omega arith in
@@ -132,6 +136,7 @@ upper_half pieces at low high middle p halves below is begins =
       later = halves.later;
     }
 
+-- if the middle piece begins after the offset, the search continues below it
 pub lower_half : (pieces : List MediaPiece) (at low high middle : ℕ) (p : MediaPiece) → Halves pieces at low high → low ≤ middle → middle < high → slice_get pieces middle ≡ Some p → at < p.start → Halves pieces at low middle
 lower_half pieces at low high middle p halves above below is begins =
     record {
@@ -141,11 +146,13 @@ lower_half pieces at low high middle p halves above below is begins =
       later = λ q there. omega (arith, begins, ap (λ (x : MediaPiece). x.start) (same_some (slice_get pieces middle) p q is there));
     }
 
+-- if the search ends at 0, the offset is before all pieces
 pub before_all : (pieces : List MediaPiece) (at low high : ℕ) → Halves pieces at low high → high ≤ low → low ≡ 0 → IsBeforePieces pieces at
 before_all pieces at low high halves done none p is =
     let first : high ≡ 0 = omega (arith, done, none) in
     halves.later p (ap (λ n. slice_get pieces n) first ∙ is)
 
+-- if the search ends above 0, the piece before its end is the one at the offset
 pub piece_at : (pieces : List MediaPiece) (at low high : ℕ) (p : MediaPiece) → Halves pieces at low high → high ≤ low → 0 < low → slice_get pieces (low - 1) ≡ Some p → IsPieceAt pieces at p
 piece_at pieces at low high p halves done some is =
     let next : low - 1 + 1 ≡ high = omega (arith, some, done, halves.order) in
@@ -156,7 +163,7 @@ piece_at pieces at low high p halves done some is =
       next = λ q there. halves.later q (ap (λ n. slice_get pieces n) (sym next) ∙ there);
     }
 
--- what the piece doesn't have, the media don't have
+-- if the piece at an offset doesn't have the unit of a record, the media don't have it
 pub piece_fault : (media : Option StoredMedia) (m : StoredMedia) (at : ℕ) (c : MediaPiece) (body : List ℕ) (fault : RecallFault) → media ≡ Some m → IsPieceAt m.pieces.items at c → 0 < unit_len_in body
     → IsPieceFault c at body fault → IsStoredFault media at body fault
 piece_fault media m at c body Memory is found some fails = fails

@@ -19,12 +19,12 @@ use Rattle.hls_journal.specs.Recalling.{IsUnitOf}
 use Rattle.hls_journal.specs.Faults.{IsTrimmedFault, IsStoredFault, IsNoUnit, IsUnitFault}
 use Rattle.hls_journal.proofs.Pieces.{same_stored}
 
--- the length of what replaces a trimmed unit
+-- what replaces a trimmed unit has the length that the record says
 pub trimmed_len : (body bytes : List ℕ) → IsTrimmedUnit body bytes → length bytes ≡ unit_len_in body
 trimmed_len body bytes is =
     omega (arith, is.fits, ap length is.is, length-append (unit_head_in body) (replicate (unit_len_in body - length (unit_head_in body)) 0), length-replicate {A = ℕ} (unit_len_in body - length (unit_head_in body)) 0)
 
--- the length of what a piece has
+-- the bytes that a piece has at an offset have the length that was asked for
 pub piece_len : (p : MediaPiece) (at len : ℕ) (bytes : List ℕ) → IsInPiece p at len bytes → length bytes ≡ len
 piece_len p at len bytes is =
     let count : at - p.start + len - (at - p.start) ≡ len = omega arith in
@@ -32,7 +32,7 @@ piece_len p at len bytes is =
     ∙ length-take-le (at - p.start + len - (at - p.start)) (drop (at - p.start) p.bytes) (omega (arith, is.0, is.1, length-drop (at - p.start) p.bytes))
     ∙ count
 
--- a record whose unit's length is 0, or that is too short
+-- a record that is too short, or whose unit has no bytes, is of no unit
 pub no_length : (floor : ℕ) (media : Option StoredMedia) (rec : RecordingData) (body : List ℕ) → (16 ≤ length body → unit_len_in body ≡ 0) → IsNoUnit floor media rec body
 no_length floor media rec body none =
     record {
@@ -46,13 +46,13 @@ no_length floor media rec body none =
       own = λ order long some kept missing. omega (arith, none long, some);
     }
 
--- the unit would be longer than any, or shorter than its head
+-- if a record's unit would be shorter than its head, or longer than 67108864 bytes, nothing replaces it
 pub not_trimmed : (body : List ℕ) → ((length (unit_head_in body) ≤ unit_len_in body) → 67108864 < unit_len_in body) → IsTrimmedFault body Wrong
 not_trimmed body long init bytes f is unit =
     let bound : AreBounded f bytes = units_are_bounded init bytes f unit in
     omega (arith, bound.len_is, bound.len_limit, trimmed_len body bytes is, long is.fits)
 
--- a trimmed unit that nothing replaces
+-- why nothing replaces a unit below the floor is why its record leads to no next unit
 pub trimmed_fault : (floor : ℕ) (media : Option StoredMedia) (rec : RecordingData) (body : List ℕ) (fault : RecallFault) → length rec.facts < floor → IsTrimmedFault body fault → IsUnitFault floor media rec body fault
 trimmed_fault floor media rec body Memory below is = is
 trimmed_fault floor media rec body Wrong below is =
@@ -65,17 +65,18 @@ trimmed_fault floor media rec body Wrong below is =
     }
 trimmed_fault floor media rec body Missing below is = absurd is
 
--- a stored unit that is missing
+-- why a unit from the floor on isn't found is why its record leads to no next unit
 pub stored_fault : (floor : ℕ) (media : Option StoredMedia) (rec : RecordingData) (body : List ℕ) (fault : RecallFault) → floor ≤ length rec.facts → 16 ≤ length body → 0 < unit_len_in body
     → IsStoredFault media (total_of rec) body fault → IsUnitFault floor media rec body fault
 stored_fault floor media rec body Memory kept long some is = is
 stored_fault floor media rec body Wrong kept long some is = absurd is
 stored_fault floor media rec body Missing kept long some is = record { complete = long; some = some; kept = kept; missing = is }
 
+-- a result isn't both facts and a fault
 no_facts : (o : Result Facts MediaFault) (f : Facts) (e : MediaFault) → o ≡ Ok f → o ≡ Err e → ⊥
 no_facts o f e one other = cc
 
--- bytes that are the record's, and are no unit
+-- if the bytes of a record's unit are no unit under the init section, the record is of no unit
 pub not_a_unit : (floor : ℕ) (media : Option StoredMedia) (rec : RecordingData) (body bytes : List ℕ) (e : MediaFault) → 0 < unit_len_in body → IsUnitOf floor media rec body bytes → facts rec.init bytes ≡ Err e
     → IsNoUnit floor media rec body
 not_a_unit floor media rec body bytes e some (inl below) fails =
@@ -95,7 +96,7 @@ not_a_unit floor media rec body bytes e some (inr stored) fails =
       own = λ order long some_bytes kept missing. missing bytes stored.1;
     }
 
--- a record that has no unit
+-- a record that has no unit is of no unit
 pub has_no_unit : (floor : ℕ) (media : Option StoredMedia) (rec : RecordingData) (body : List ℕ) → ((16 ≤ length body) × (0 < unit_len_in body) → ⊥) → IsNoUnit floor media rec body
 has_no_unit floor media rec body none =
     no_length floor media rec body (λ long. elim (cases_eq (unit_len_in body) 0) [ inl zero_len ↦ zero_len | inr some ↦ absurd (none (long, omega (arith, some))) ])

@@ -2,11 +2,11 @@
 use Rattle.std.specs.Prelude.{◌≡◌, ℕ, ◌-◌, max, ◌==◌, ◌&&◌, if◌then◌else◌, List, [], ◌∷◌, length, get_or}
 use Rattle.hls_journal_laws.specs.Bodies.{kind_in, number_in}
 
--- the number that all job ids so far are below, or 0
+-- the number that all job ids so far are below, if a record says one, else 0
 abbrev pub ids_in : List ℕ → ℕ
 ids_in body = if (length body == 12) && (kind_in body == 6) then number_in body else 0
 
--- the highest of records
+-- the highest such number in records
 abbrev pub highest_ids : List (List ℕ) → ℕ
 highest_ids [] = 0
 highest_ids (body ∷ bodies) = max (ids_in body) (highest_ids bodies)

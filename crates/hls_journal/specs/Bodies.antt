@@ -16,10 +16,11 @@ IsRecordAt at (Finish r) body = (kind_in body ≡ 3) × (rendition_in body ≡ r
 IsRecordAt at (Slide count) body = (kind_in body ≡ 4) × (number_in body ≡ count) × (length body ≡ 12)
 IsRecordAt at (Trim r floor) body = (kind_in body ≡ 5) × (rendition_in body ≡ r) × (number_in body ≡ floor) × (length body ≡ 12)
 
+-- the body of the record of a worker's event, whose unit, if it has one, is at offset `at` of its rendition's resource
 abbrev pub IsBodyOf : ℕ → ℕ → Event → List ℕ → Type 0
 IsBodyOf by at event body = (worker_in body ≡ by) × IsRecordAt at event body
 
--- a record of no event
+-- the body of a record that is of no event
 abbrev pub IsAsideBody : List ℕ → Type 0
 IsAsideBody body = IsAside body
 

@@ -13,29 +13,29 @@ use Rattle.hls_journal.specs.declared.fault.ConfigField.TheVariants.{Target, Pre
 use Rattle.hls_journal.specs.declared.fault.JournalFault.{JournalFault}
 use Rattle.hls_journal.specs.declared.fault.JournalFault.TheVariants.{Memory, NoChannel, UnknownVersion, JournalOther, WrongRecord, MissingUnit}
 
--- an epoch: whether there is one, and its microseconds
+-- an epoch in nine bytes: whether there is one, and its microseconds since 1970
 abbrev pub epoch_bytes : Option ℤ → List ℕ
 epoch_bytes None = 0 ∷ little_bytes 8 0
 epoch_bytes (Some us) = 1 ∷ little_bytes 8 (unsigned_abs us)
 
--- a name, filled up with zero bytes
+-- a name in 32 bytes, filled up with zeros
 abbrev pub name_bytes : List ℕ → List ℕ
 name_bytes name = name ++ replicate (32 - length name) 0
 
--- a rendition: its name, whether it is video, its bandwidth, its tolerance
+-- a rendition in bytes: its name, whether it is video, its bandwidth, its tolerance
 abbrev pub rendition_bytes : Rendition → List ℕ
 rendition_bytes r = name_bytes r.name ++ (from_bool r.video ∷ []) ++ little_bytes 8 r.bandwidth ++ little_bytes 8 r.tolerance
 
--- a configuration, but for its base
+-- a configuration in bytes, but for its base
 abbrev pub config_bytes : ConfigData → List ℕ
 config_bytes c = little_bytes 8 c.target ++ little_bytes 8 c.preferred ++ epoch_bytes c.epoch ++ flat_map rendition_bytes c.renditions
 
--- the bytes that precede, of the first renditions
+-- the bytes that precede in each of the first renditions, in eight bytes each
 abbrev pub counts_bytes : BaseData → ℕ → List ℕ
 counts_bytes b zero = []
 counts_bytes b (suc r) = counts_bytes b r ++ little_bytes 8 (bytes_before_base b r)
 
--- a base: its run, the segments, their marks, whether the first segment is marked, the log entries, and the bytes of 16 renditions
+-- a base in bytes: its run, segments, marks, whether the first segment is marked, the log entries, and the bytes of 16 renditions
 abbrev pub base_bytes : BaseData → List ℕ
 base_bytes b = b.run ++ little_bytes 8 b.segments ++ little_bytes 8 b.marks ++ (from_bool b.marked ∷ []) ++ little_bytes 8 b.version ++ counts_bytes b 16
 
@@ -43,10 +43,11 @@ base_bytes b = b.run ++ little_bytes 8 b.segments ++ little_bytes 8 b.marks ++ (
 abbrev pub header_bytes : ChannelHeader → List ℕ
 header_bytes h = (0 ∷ []) ++ little_bytes 2 2 ++ h.boot ++ base_bytes h.base
 
--- the body: a header, and the configuration
+-- the body of the record of a channel: a header, and the configuration
 abbrev pub channel_bytes : ConfigData → ChannelHeader → List ℕ
 channel_bytes c h = header_bytes h ++ config_bytes c
 
+-- the number of bytes in the record of a channel before the configuration
 abbrev pub header_len : ℕ
 header_len = 188
 
@@ -54,6 +55,7 @@ header_len = 188
 abbrev pub fields_len : ℕ
 fields_len = 25
 
+-- the version of the format that a body of a channel's record names
 abbrev pub version_in : List ℕ → ℕ
 version_in body = little_number 2 (drop 1 body)
 
@@ -65,7 +67,7 @@ config_in body = drop header_len body
 abbrev pub number_at : ℕ → List ℕ → ℕ
 number_at at text = little_number 8 (drop at text)
 
--- the bytes that precede, of the first renditions, as a text has them
+-- the bytes that precede in each of the first renditions, as a text has them
 abbrev pub counts_in : List ℕ → ℕ → List ℕ
 counts_in text zero = []
 counts_in text (suc r) = counts_in text r ++ number_at (8 * r) text ∷ []
@@ -74,10 +76,11 @@ counts_in text (suc r) = counts_in text r ++ number_at (8 * r) text ∷ []
 abbrev pub base_in : List ℕ → BaseData
 base_in text = base_from (take 16 text) (number_at 16 text) (number_at 24 text) (not (get_or text 32 0 == 0)) (counts_in (drop 41 text) 16) (number_at 33 text)
 
--- the boot id and the base in a body
+-- the bytes of the boot id in the body of a channel's record
 abbrev pub boot_part : List ℕ → List ℕ
 boot_part body = slice_range body 3 19
 
+-- the bytes of the base in it
 abbrev pub base_part : List ℕ → List ℕ
 base_part body = slice_range body 19 188
 
@@ -109,7 +112,7 @@ DifferIn found given Epoch journal mine =
     (number_at 0 found ≡ number_at 0 given) × (number_at 8 found ≡ number_at 8 given) × (journal ≡ number_at 17 found) × (mine ≡ number_at 17 given) × (take 25 found ≢ take 25 given)
 DifferIn found given Renditions journal mine = (take 25 found ≡ take 25 given) × (journal ≡ length found) × (mine ≡ length given) × (found ≢ given)
 
--- a body is of the record of a channel in this version of the format, or isn't, for this reason
+-- a body is that of a channel's record in version 2 of the format, or it isn't, for this reason
 abbrev pub JudgesVersion : List ℕ → Result (Unit {0}) JournalFault → Type 0
 JudgesVersion body (Ok _) = (3 ≤ length body) × (get_or body 0 0 ≡ 0) × (version_in body ≡ 2)
 JudgesVersion body (Err Memory) = ⊥
@@ -119,7 +122,7 @@ JudgesVersion body (Err (JournalOther field journal given)) = ⊥
 JudgesVersion body (Err (WrongRecord number)) = ⊥
 JudgesVersion body (Err (MissingUnit number)) = ⊥
 
--- two configurations, each with its fields, are equal, or this is the first field in which they differ
+-- the bytes of two configurations are equal, or this is the first field in which they differ
 abbrev pub JudgesConfigs : List ℕ → List ℕ → Result (Unit {0}) JournalFault → Type 0
 JudgesConfigs found given (Ok _) = found ≡ given
 JudgesConfigs found given (Err Memory) = ⊥

@@ -32,9 +32,11 @@ abbrev pub AreInOrder : List MediaPiece → Type 0
 AreInOrder pieces =
     (i j : ℕ) (p q : MediaPiece) → i < j → slice_get pieces i ≡ Some p → slice_get pieces j ≡ Some q → p.start + length p.bytes ≤ q.start
 
+-- if a rendition's media are there, their pieces are in the order of their offsets, and none overlap
 abbrev pub IsInOrder : Option StoredMedia → Type 0
 IsInOrder media = (m : StoredMedia) → media ≡ Some m → AreInOrder m.pieces.items
 
+-- the pieces of each rendition's media are in the order of their offsets, and none overlap
 abbrev pub AreMediaInOrder : List StoredMedia → Type 0
 AreMediaInOrder media = (r : ℕ) → IsInOrder (slice_get media r)
 
@@ -60,29 +62,30 @@ IsRecallFault floors media s body Memory = ⊤
 IsRecallFault floors media s body Wrong = IsNotNew floors media s body
 IsRecallFault floors media s body Missing = MissesUnit floors media s body
 
--- why an event leads to no next state, and the fault of a refusal
+-- why an event leads to no next state
 abbrev pub IsOldFault : State → Event → RecallFault → Type 0
 IsOldFault s event Memory = ⊤
 IsOldFault s event Wrong = outcome_of s event ≡ New → ⊥
 IsOldFault s event Missing = ⊥
 
+-- the fault of recalling an event that is refused: an allocation failure, or else a wrong record
 abbrev pub fault_of : Refusal → RecallFault
 fault_of refusals.Memory = Memory
 fault_of refusal = Wrong
 
--- bytes are of no init section
+-- why bytes lead to no begin of a rendition: they are no init section, or an allocation failed
 abbrev pub IsBeginFault : List ℕ → RecallFault → Type 0
 IsBeginFault bytes Memory = ⊤
 IsBeginFault bytes Wrong = (init : InitData) → IsInit bytes init → ⊥
 IsBeginFault bytes Missing = ⊥
 
--- no unit replaces the trimmed unit of a record
+-- why nothing replaces the trimmed unit of a record: its head with zeros up to its length is no unit, or an allocation failed
 abbrev pub IsTrimmedFault : List ℕ → RecallFault → Type 0
 IsTrimmedFault body Memory = ⊤
 IsTrimmedFault body Wrong = (init : InitData) (bytes : List ℕ) (f : Facts) → IsTrimmedUnit body bytes → IsUnit init bytes f → ⊥
 IsTrimmedFault body Missing = ⊥
 
--- the media don't have the unit of a record
+-- why the unit of a record isn't found: the media don't have it, or an allocation failed
 abbrev pub IsStoredFault : Option StoredMedia → ℕ → List ℕ → RecallFault → Type 0
 IsStoredFault media at body Memory = ⊤
 IsStoredFault media at body Wrong = ⊥
@@ -101,12 +104,13 @@ pub record IsUnitMissing (floor : ℕ) (media : Option StoredMedia) (rec : Recor
   pub kept : floor ≤ length rec.facts
   pub missing : IsInOrder media → (bytes : List ℕ) → IsStoredIn media (total_of rec) body bytes → ⊥
 
+-- why a record leads to no next unit of a recording
 abbrev pub IsUnitFault : ℕ → Option StoredMedia → RecordingData → List ℕ → RecallFault → Type 0
 IsUnitFault floor media rec body Memory = ⊤
 IsUnitFault floor media rec body Wrong = IsNoUnit floor media rec body
 IsUnitFault floor media rec body Missing = IsUnitMissing floor media rec body
 
--- the fault of the journal, given the record's number
+-- the journal's fault for the fault of the record with this number
 abbrev pub fault_at : RecallFault → ℕ → JournalFault
 fault_at Memory number = journal.Memory
 fault_at Wrong number = journal.WrongRecord number
@@ -131,14 +135,14 @@ IsRestoreFault floors media a bodies (journal.JournalOther field found given) = 
 IsRestoreFault floors media a bodies (journal.WrongRecord number) = FailsAt floors media a bodies number Wrong
 IsRestoreFault floors media a bodies (journal.MissingUnit number) = FailsAt floors media a bodies number Missing
 
--- the first record isn't of a channel with the configuration
+-- the first record isn't of a channel with this configuration
 pub record ChannelFails (config : ConfigData) (bodies : List (List ℕ)) (fault : JournalFault) : Type 0 where
   pub channel : List ℕ
   pub records : List (List ℕ)
   pub is : bodies ≡ channel ∷ records
   pub why : IsChannelFault config channel fault
 
--- or it is, and those after it restore nothing
+-- the first record is of a channel with this configuration, and those after it restore no state
 pub record RecordsFail (config : ConfigData) (media : List StoredMedia) (bodies : List (List ℕ)) (fault : JournalFault) : Type 0 where
   pub header : ChannelHeader
   pub records : List (List ℕ)

@@ -2,6 +2,6 @@
 use Rattle.std.specs.Prelude.{◌≡◌, ℕ, List, ◌++◌, length}
 use Rattle.hls_journal_laws.specs.Heads.{IsHead}
 
--- no head begins a unit
+-- a unit doesn't begin with a head
 abbrev pub HasNoHead : List ℕ → Type 0
 HasNoHead unit = (head rest : List ℕ) → unit ≡ head ++ rest → IsHead head (length rest) → ⊥

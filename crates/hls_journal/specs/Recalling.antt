@@ -17,7 +17,7 @@ use Rattle.hls_journal_laws.specs.declared.stored_media.StoredMedia.{StoredMedia
 use Rattle.hls_journal_laws.specs.Bodies.{unit_len_in, unit_checksum_in, IsAside}
 use Rattle.hls_journal_laws.specs.Restored.{unit_checksum, IsStored, IsTrimmedUnit, Recalls, Restores}
 
--- the floor of a rendition, of a list of floors
+-- the floor of a rendition in a list of floors, 0 after its end
 abbrev pub floors_at : List ℕ → ℕ → ℕ
 floors_at floors r = get_or floors r 0
 
@@ -26,7 +26,7 @@ abbrev pub IsStoredIn : Option StoredMedia → ℕ → List ℕ → List ℕ →
 IsStoredIn media at body bytes =
     (m : StoredMedia) × (media ≡ Some m) × IsStored m at (unit_len_in body) bytes × (unit_checksum_in body ≡ unit_checksum at bytes)
 
--- the bytes of the next unit of a recording
+-- the bytes of a recording's next unit: those that replace it if its number is below the floor, else the stored ones
 abbrev pub IsUnitOf : ℕ → Option StoredMedia → RecordingData → List ℕ → List ℕ → Type 0
 IsUnitOf floor media rec body bytes =
     ((length rec.facts < floor) × IsTrimmedUnit body bytes) ⊎ ((floor ≤ length rec.facts) × IsStoredIn media (total_of rec) body bytes)

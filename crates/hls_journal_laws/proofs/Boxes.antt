@@ -11,6 +11,7 @@ pub record IsBox (h : BoxHeader) (box : List ℕ) : Type 0 where
   pub header : header_at box ≡ Some h
   pub whole : length box ≡ h.size
 
+-- if a header is that of a whole box, the box is no shorter than its header and no longer than the text
 whole_header : (len : ℕ) (o : Option BoxHeader) (h : BoxHeader) → whole_box_header len o ≡ Some h → (o ≡ Some h) × (h.head ≤ h.size) × (h.size ≤ len)
 whole_header len None h is = absurd (cc)
 whole_header len (Some k) h is =
@@ -27,16 +28,17 @@ whole_header len (Some k) h is =
       ]
     ]
 
--- the header of a complete box, and that it is one
+-- a whole box at the start of a text has a header there, is no shorter than it, and no longer than the text
 header_of_box : (text : List ℕ) (h : BoxHeader) → box_at text ≡ Some h → (header_at text ≡ Some h) × (h.head ≤ h.size) × (h.size ≤ length text)
 unfolding box_at
 header_of_box text h is = whole_header (length text) (header_at text) h is
 
+-- a header whose box is no shorter than it and no longer than the text is that of a whole box
 box_of_header : (text : List ℕ) (h : BoxHeader) → header_at text ≡ Some h → h.head ≤ h.size → h.size ≤ length text → box_at text ≡ Some h
 unfolding box_at
 box_of_header text h is fits within = rw (is, le-ltb h.size h.head fits, le-ltb (length text) h.size within) refl
 
--- a box, and the boxes that fill the rest
+-- a box before a text that is filled by boxes makes a text that is filled by all of them
 pub children_cons : (h : BoxHeader) (box behind : List ℕ) (boxes : List Child) → IsBox h box → h.head ≤ h.size → children behind ≡ Some boxes
     → children (box ++ behind) ≡ Some (child_of h (box ++ behind) ∷ boxes)
 children_cons h box behind boxes one fits filled =
@@ -47,15 +49,17 @@ children_cons h box behind boxes one fits filled =
     let rest : drop h.size (box ++ behind) ≡ behind = drop_at box behind h.size one.whole in
     children-step (box ++ behind) some ∙ rw (found, rest, filled) refl
 
+-- a list that begins with a box isn't empty
 some_more : (c : Child) (o : Option (List Child)) → option_map (λ (more : List Child). c ∷ more) o ≡ Some [] → ⊥
 some_more c None is = absurd (cc)
 some_more c (Some cs) is = absurd (cc)
 
+-- if the boxes of a text are none, there is no byte
 no_box : (text : List ℕ) (o : Option BoxHeader) → children_after_header children text o ≡ Some [] → text ≡ []
 no_box text None is = absurd (cc)
 no_box text (Some h) is = absurd (some_more (child_of h text) (children (drop h.size text)) is)
 
--- a text that no boxes fill is empty
+-- a text that is filled by no boxes is empty
 pub no_children : (text : List ℕ) → children text ≡ Some [] → text ≡ []
 no_children [] is = refl
 no_children (x ∷ text) is = no_box (x ∷ text) (box_at (x ∷ text)) (sym (children-step (x ∷ text) (omega arith)) ∙ is)
@@ -68,7 +72,7 @@ child_stays h box z fits within =
     ap (λ xs. record { kind = h.kind; head = h.head; content = xs })
     (ap (λ xs. take (h.size - h.head) xs) (drop-append-le h.head box z low) ∙ take-append-le (h.size - h.head) (drop h.head box) z room)
 
--- the first of the boxes that fill a text
+-- a text begins with the first box of a list, and the others fill the rest
 pub record FirstOf (text : List ℕ) (b : Child) (boxes : List Child) : Type 0 where
   pub header : BoxHeader
   pub box : List ℕ
@@ -79,6 +83,7 @@ pub record FirstOf (text : List ℕ) (b : Child) (boxes : List Child) : Type 0 w
   pub filled : children behind ≡ Some boxes
   pub child : child_of header box ≡ b
 
+-- a box before others makes the list of both
 some_of : (c : Child) (o : Option (List Child)) (b : Child) (boxes : List Child) → option_map (λ (more : List Child). c ∷ more) o ≡ Some (b ∷ boxes) → (c ≡ b) × (o ≡ Some boxes)
 some_of c None b boxes is = absurd (cc)
 some_of c (Some cs) b boxes is =
@@ -86,6 +91,7 @@ some_of c (Some cs) b boxes is =
     let tail : cs ≡ boxes = cc in
     (head, ap Some tail)
 
+-- a text that is filled by boxes begins with the first of them, whose header is at its start
 first_by : (text : List ℕ) (b : Child) (boxes : List Child) (o : Option BoxHeader) → box_at text ≡ o → children_after_header children text o ≡ Some (b ∷ boxes) → FirstOf text b boxes
 first_by text b boxes None found is = absurd (cc)
 first_by text b boxes (Some h) found is =
@@ -105,6 +111,7 @@ first_by text b boxes (Some h) found is =
       child = sym (child_stays h (take h.size text) (drop h.size text) read.1 (omega (arith, whole))) ∙ ap (λ t. child_of h t) split ∙ more.0;
     }
 
+-- a text that is filled by boxes begins with the first of them, and the others fill the rest
 pub first_of : (text : List ℕ) (b : Child) (boxes : List Child) → children text ≡ Some (b ∷ boxes) → FirstOf text b boxes
 first_of [] b boxes is = let none : Some [] ≡ Some (b ∷ boxes) = sym children-empty ∙ is in absurd (cc)
 first_of (x ∷ text) b boxes is =

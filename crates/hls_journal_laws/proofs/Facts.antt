@@ -20,9 +20,11 @@ record AreAlike (c d : Child) : Type 0 where
   long : length c.content ≡ length d.content
   is_mdat : (d.kind == mdat_type) ≡ true
 
+-- after a `moof`, two such `mdat` boxes as the last box make the same layout
 last_alike : (moof : List ℕ) (at : ℕ) (c d : Child) → AreAlike c d → last_box moof at c [] ≡ last_box moof at d []
 last_alike moof at c d same = rw (same.head, same.long) refl
 
+-- after a `moof` and other boxes, two such `mdat` boxes as the last box make the same layout
 with_mdat_alike : (moof : List ℕ) (at : ℕ) (bs : List Child) (c d : Child) → AreAlike c d → with_mdat moof at (bs ++ c ∷ []) ≡ with_mdat moof at (bs ++ d ∷ [])
 with_mdat_alike moof at [] c d same = rw (same.kind, same.is_mdat) (last_alike moof at c d same)
 with_mdat_alike moof at (b ∷ []) c d same =
@@ -36,6 +38,7 @@ with_mdat_alike moof at (b ∷ e ∷ bs) c d same =
       | inr f ↦ rw f (ap (λ (o : Option Layout). cond (b.kind == moof_type || b.kind == moov_type) None o) (with_mdat_alike moof (at + size_of_box b) (e ∷ bs) c d same))
     ]
 
+-- after any boxes, two such `mdat` boxes as the last box make the same layout
 layout_alike : (bs : List Child) (c d : Child) → AreAlike c d → layout_of_boxes (bs ++ c ∷ []) ≡ layout_of_boxes (bs ++ d ∷ [])
 layout_alike [] c d same =
     let is : d.kind ≡ mdat_type = eqb-true d.kind mdat_type same.is_mdat in
@@ -46,7 +49,7 @@ layout_alike (b ∷ bs) c d same =
       | inr f ↦ rw f (ap (λ (o : Option Layout). cond (b.kind == mdat_type || b.kind == moov_type) None o) (layout_alike bs c d same))
     ]
 
--- the boxes of a head and a content
+-- a head and a content of the length that it says are the boxes before the `mdat`, and the `mdat`
 boxes_of_head : (head a : List ℕ) (len : ℕ) (is : IsHead head len) → length a ≡ len → children (head ++ a) ≡ Some (is.boxes ++ child_of is.header (is.last ++ a) ∷ [])
 boxes_of_head head a len is long =
     let whole : length (is.last ++ a) ≡ is.header.size = length-append is.last a ∙ ap (λ k. length is.last + k) long ∙ is.ends in
@@ -55,9 +58,11 @@ boxes_of_head head a len is long =
     ∙ ap (λ t. children t) (append_assoc is.front is.last a)
     ∙ children_joined is.boxes is.front (is.last ++ a) (child_of is.header (is.last ++ a) ∷ []) is.filled (children_one is.header (is.last ++ a) one is.fits)
 
+-- the content of a box has the box's length without its header's
 length_content : (h : BoxHeader) (box : List ℕ) → length box ≡ h.size → length (child_of h box).content ≡ h.size - h.head
 length_content h box whole = length-take-le (h.size - h.head) (drop h.head box) (omega (arith, length-drop h.head box, whole))
 
+-- two contents of the same length make `mdat` boxes with the same header and that length
 alike : (head a b : List ℕ) (is : IsHead head (length a)) → length b ≡ length a → AreAlike (child_of is.header (is.last ++ b)) (child_of is.header (is.last ++ a))
 alike head a b is long =
     let whole_a : length (is.last ++ a) ≡ is.header.size = length-append is.last a ∙ is.ends in
@@ -69,6 +74,7 @@ alike head a b is long =
       is_mdat = is.is_mdat;
     }
 
+-- whatever content of the same length follows a head, the layout is the same
 same_layout : (head a b : List ℕ) → IsHead head (length a) → length b ≡ length a → layout_of (head ++ b) ≡ layout_of (head ++ a)
 unfolding layout_of
 same_layout head a b is long =
@@ -80,6 +86,7 @@ same_layout head a b is long =
     ap (λ k. cond (nat_lt unit_limit k) None (option_and_then layout_of_boxes (children (head ++ b)))) len
     ∙ ap (λ o. cond (nat_lt unit_limit (length (head ++ a))) None o) boxes
 
+-- whatever content of the same length follows a head, the facts are the same
 pub heads-determine-facts : HeadsDetermineFacts
 unfolding facts
 heads-determine-facts init head a b is long =

@@ -21,10 +21,11 @@ use Rattle.hls_journal_laws.specs.Floors.{floor_in, highest_floor}
 use Rattle.hls_journal_laws.specs.Written.{IsWritten, AreWritten}
 use Rattle.hls_journal_laws.specs.Laws.{TrimmedFloorsAreReached}
 
+-- the floor of a rendition in a state
 floor_of : State → ℕ → ℕ
 floor_of s r = (lane (channel s) r).floor
 
--- a trim raises its rendition's floor, and leaves the others
+-- a trim that is new lowers no rendition's floor
 trim_raises : (s : State) (q floor r : ℕ) → outcome_of s (Trim q floor) ≡ New → (lane (channel s) r).floor ≤ (lane (with_lane (channel s) q (with_floor floor (lane (channel s) q))) r).floor
 trim_raises s q floor r new =
     let m = may_add s (Trim q floor) tt new in
@@ -43,6 +44,7 @@ trim_raises s q floor r new =
           omega (arith, same))
     ]
 
+-- a number is at most one that is equal to it
 stays_low : (a b : ℕ) → b ≡ a → a ≤ b
 stays_low a b same = omega (arith, same)
 
@@ -69,7 +71,7 @@ event_raises s by (Slide count) r fits new =
 event_raises s by (Trim q floor) r fits new =
     subst (λ (c : Channel). (lane (channel s) r).floor ≤ (lane c r).floor) (sym (channel_advanced s by (Trim q floor))) (trim_raises s q floor r new)
 
--- a trim reaches its floor
+-- after a trim that is new, the rendition's floor is that of the trim
 trim_reaches : (s : State) (by q floor : ℕ) → outcome_of s (Trim q floor) ≡ New → floor_of (state_with_entry s by (Trim q floor)) q ≡ floor
 unfolding floor_of
 trim_reaches s by q floor new =
@@ -77,9 +79,11 @@ trim_reaches s by q floor new =
     let within : q < length (channel s).lanes = slice_get_within (channel s).lanes q m.lane m.at in
     ap (λ (c : Channel). (lane c q).floor) (channel_advanced s by (Trim q floor)) ∙ ap (λ (l : Lane). l.floor) (lane_here (channel s) q (with_floor floor (lane (channel s) q)) within)
 
+-- after a new event, the next state has its entry
 next_new : (s : State) (by : ℕ) (event : Event) → outcome_of s event ≡ New → next_state s by event ≡ state_with_entry s by event
 next_new s by event new = ap (λ o. state_by_outcome o (state_with_entry s by event) s) new
 
+-- new events lower no floor
 replay_raises : (s : State) (past : List (ℕ × Event)) (r : ℕ) → AreFitting s past → AreNew s past → floor_of s r ≤ floor_of (replayed_state s past) r
 replay_raises s [] r fits new = omega arith
 replay_raises s (e ∷ es) r fits new =
@@ -87,7 +91,7 @@ replay_raises s (e ∷ es) r fits new =
     let rest = replay_raises (next_state s e.0 e.1) es r fits.1 new.1 in
     omega (arith, one, rest)
 
--- the floor of a record, if it is one of a trim of the rendition
+-- the floor that a record names for a rendition is at most a bound, if that holds when the record is a trim of it
 floor_below : (body : List ℕ) (r most : ℕ) → (kind_in body ≡ 5 → rendition_in body ≡ r → number_in body ≤ most) → floor_in body r ≤ most
 floor_below body r most low =
     elim (cases_Bool (length body == 12)) [
@@ -101,9 +105,11 @@ floor_below body r most low =
       ]
     ]
 
+-- a record of no event names no floor above a bound
 aside_floor : (body : List ℕ) (r most : ℕ) → IsAside body → floor_in body r ≤ most
 aside_floor body r most aside = floor_below body r most (λ kind same. absurd (omega (arith, kind, aside.0)))
 
+-- the record of a new event names no floor above a bound, if the floor after the event isn't above it
 written_floor : (s : State) (by : ℕ) (body : List ℕ) (x : Event) (r most : ℕ) → outcome_of s x ≡ New → IsWritten s body x → floor_of (state_with_entry s by x) r ≤ most → floor_in body r ≤ most
 written_floor s by body (Begin q init bytes) r most new written low = floor_below body r most (λ kind same. absurd (omega (arith, kind, written.0)))
 written_floor s by body (Accept q f bytes) r most new written low = floor_below body r most (λ kind same. absurd (omega (arith, kind, written.0)))
@@ -114,9 +120,11 @@ written_floor s by body (Trim q floor) r most new written low = floor_below body
     let to : floor_of (state_with_entry s by (Trim q floor)) r ≡ floor = ap (λ k. floor_of (state_with_entry s by (Trim q floor)) k) (sym at) ∙ trim_reaches s by q floor new in
     omega (arith, to, low, written.2))
 
+-- the greater of two numbers below a bound is below it
 both_below : (a b most : ℕ) → a ≤ most → b ≤ most → max a b ≤ most
 both_below a b most low other = omega (arith, low, other)
 
+-- the highest floor that the records of new events name is at most the floor in the end
 floors_reached : (floors : ℕ → ℕ) (media : List StoredMedia) (s : State) (bodies : List (List ℕ)) (past : List (ℕ × Event)) (r : ℕ) → AreFitting s past → AreNew s past → AreWritten floors media s bodies past
     → highest_floor bodies r ≤ floor_of (replayed_state s past) r
 floors_reached floors media s [] [] r fits new written = omega arith
@@ -133,6 +141,7 @@ floors_reached floors media s (body ∷ bodies) (e ∷ es) r fits new (inr writt
     subst (λ (z : State). floor_of z r ≤ floor_of (replayed_state s (e ∷ es)) r) (next_new s e.0 e.1 new.0) raised in
     both_below (floor_in body r) (highest_floor bodies r) (floor_of (replayed_state s (e ∷ es)) r) (written_floor s e.0 body e.1 r (floor_of (replayed_state s (e ∷ es)) r) new.0 written.1 low) rest
 
+-- no record of what came trims a rendition above its floor in the end
 pub trimmed-floors-are-reached : TrimmedFloorsAreReached
 unfolding floor_of
 trimmed-floors-are-reached config floors media bodies past configured fits new written r = floors_reached floors media (first_state config) bodies past r fits new written

@@ -25,13 +25,16 @@ record EndsWithMdat (bs : List Child) : Type 0 where
   are : bs ≡ front ++ last ∷ []
   is_mdat : (last.kind == mdat_type) ≡ true
 
+-- boxes that end with an `mdat` still do with another box before them
 ends_behind : (b : Child) (bs : List Child) → EndsWithMdat bs → EndsWithMdat (b ∷ bs)
 ends_behind b bs e = record { front = b ∷ e.front; last = e.last; are = ap (λ cs. b ∷ cs) e.are; is_mdat = e.is_mdat }
 
+-- if the last box of a layout is an `mdat`, the boxes end with one
 ends_here : (moof : List ℕ) (at : ℕ) (b : Child) (bs : List Child) (l : Layout) → (b.kind == mdat_type) ≡ true → last_box moof at b bs ≡ Some l → EndsWithMdat (b ∷ bs)
 ends_here moof at b [] l is found = record { front = []; last = b; are = refl; is_mdat = is }
 ends_here moof at b (c ∷ cs) l is found = absurd (cc)
 
+-- if the boxes after a `moof` have a layout, they end with an `mdat`
 ends_after_moof : (moof : List ℕ) (at : ℕ) (bs : List Child) (l : Layout) → with_mdat moof at bs ≡ Some l → EndsWithMdat bs
 ends_after_moof moof at [] l found = absurd (cc)
 ends_after_moof moof at (b ∷ bs) l found =
@@ -45,6 +48,7 @@ ends_after_moof moof at (b ∷ bs) l found =
           ])
     ]
 
+-- boxes that have a layout end with an `mdat`
 ends_with_mdat : (bs : List Child) (l : Layout) → layout_of_boxes bs ≡ Some l → EndsWithMdat bs
 ends_with_mdat [] l found = absurd (cc)
 ends_with_mdat (b ∷ bs) l found =
@@ -58,7 +62,7 @@ ends_with_mdat (b ∷ bs) l found =
           ])
     ]
 
--- a text whose last box is this
+-- the last box that fills a text is this one, and the others fill what precedes it
 record LastBox (text : List ℕ) (boxes : List Child) (last : Child) : Type 0 where
   front : List ℕ
   box : List ℕ
@@ -69,9 +73,11 @@ record LastBox (text : List ℕ) (boxes : List Child) (last : Child) : Type 0 wh
   fits : header.head ≤ header.size
   child : child_of header box ≡ last
 
+-- an empty list after another one leaves it
 with_empty : (xs ys : List ℕ) → ys ≡ [] → xs ≡ xs ++ ys
 with_empty xs ys none = sym (append-nil xs) ∙ ap (λ zs. xs ++ zs) (sym none)
 
+-- a text that is filled by boxes and one more ends with that one
 last_box_of : (boxes : List Child) (text : List ℕ) (last : Child) → children text ≡ Some (boxes ++ last ∷ []) → LastBox text boxes last
 last_box_of [] text last filled =
     let f = first_of text last [] filled in
@@ -102,13 +108,14 @@ last_box_of (b ∷ boxes) text last filled =
       child = s.child;
     }
 
--- a unit's head, and its rest
+-- a unit is a head, and a rest of the length that the head says
 record HasHead (unit : List ℕ) : Type 0 where
   head : List ℕ
   rest : List ℕ
   is : unit ≡ head ++ rest
   good : IsHead head (length rest)
 
+-- if the last box of a unit is an `mdat`, the unit has a head
 head_of_boxes : (unit : List ℕ) (boxes : List Child) (last : Child) → (last.kind == mdat_type) ≡ true → LastBox unit boxes last → HasHead unit
 head_of_boxes unit boxes last is_mdat s =
     let within = header_at-within s.box s.header s.one.header in
@@ -132,12 +139,14 @@ head_of_boxes unit boxes last is_mdat s =
       };
     }
 
+-- a unit whose boxes have a layout has a head
 head_of_children : (unit : List ℕ) (boxes : Option (List Child)) (l : Layout) → children unit ≡ boxes → option_and_then layout_of_boxes boxes ≡ Some l → HasHead unit
 head_of_children unit None l are found = absurd (cc)
 head_of_children unit (Some bs) l are found =
     let e = ends_with_mdat bs l found in
     head_of_boxes unit e.front e.last e.is_mdat (last_box_of e.front unit e.last (are ∙ ap Some e.are))
 
+-- a unit with a layout has a head
 head_of_layout : (unit : List ℕ) (l : Layout) → layout_of unit ≡ Some l → HasHead unit
 unfolding layout_of
 head_of_layout unit l found =
@@ -146,17 +155,19 @@ head_of_layout unit l found =
       | inr short ↦ head_of_children unit (children unit) l refl (rw short at found)
     ]
 
--- a unit has a layout
+-- if the facts of a unit are read, it has a layout
 has_layout : (g : UnitContext) (len : ℕ) (o : Option Layout) (f : Facts) → facts_with g len (trafs_in o) ≡ Ok f → (l : Layout) × (o ≡ Some l)
 has_layout g len None f is = absurd (cc)
 has_layout g len (Some l) f is = (l, refl)
 
+-- every unit has a head
 head_of_unit : (init : InitData) (unit : List ℕ) (f : Facts) → IsUnit init unit f → HasHead unit
 unfolding facts
 head_of_unit init unit f is =
     let l = has_layout (context_of_layout init (layout_of unit)) (length unit) (layout_of unit) f is in
     head_of_layout unit l.0 l.1
 
+-- every unit has a head, and with as many zeros after it, its facts are the unit's
 pub units-have-heads : UnitsHaveHeads
 units-have-heads init unit f is =
     let h = head_of_unit init unit f is in

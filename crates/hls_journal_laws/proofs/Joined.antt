@@ -6,6 +6,7 @@ use Rattle.hls_boxes.specs.Boxes.{Child, child_of, children}
 use Rattle.hls_boxes.proofs.Callers.{children-empty}
 use Rattle.hls_journal_laws.proofs.Boxes.{IsBox, first_of, children_cons, no_children, child_stays}
 
+-- a text that is filled by boxes and one that is filled by others make one that is filled by all of them
 pub children_joined : (boxes : List Child) (front z : List ℕ) (more : List Child) → children front ≡ Some boxes → children z ≡ Some more → children (front ++ z) ≡ Some (boxes ++ more)
 children_joined [] front z more filled rest =
     let empty : front ≡ [] = no_children front filled in
@@ -20,7 +21,7 @@ children_joined (b ∷ boxes) front z more filled rest =
     ∙ children_cons one.header one.box (one.behind ++ z) (boxes ++ more) one.one one.fits behind
     ∙ ap (λ c. Some (c ∷ (boxes ++ more))) here
 
--- one box alone
+-- a text that is exactly one box is filled by that box
 pub children_one : (h : BoxHeader) (box : List ℕ) → IsBox h box → h.head ≤ h.size → children box ≡ Some (child_of h box ∷ [])
 children_one h box one fits =
     let plain : box ++ [] ≡ box = append-nil box in

@@ -1,3 +1,5 @@
+-- The lemmas on what a journal restores: heads of units and their facts, replays of events and of their substitutes, restored states,
+-- floors that are reached, and what survives a crash.
 pub mod Boxes
 pub mod Joined
 pub mod Facts

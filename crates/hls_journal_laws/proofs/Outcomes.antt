@@ -19,6 +19,7 @@ use Rattle.hls_core_laws.specs.Outcome.{Outcome, New, Repeated, Refused, outcome
 use Rattle.hls_core_laws.specs.Moves.{logged_event, entry_of, IsFitting}
 use Rattle.hls_core_laws.proofs.Callers.{MayAdd, may_add, lanes_timed}
 
+-- whether a begin is new doesn't depend on bytes, in a rendition with this init section or none
 begin_init : (i : Option InitData) (head other bytes others : List ℕ) (entries : ℕ) → begin_with_init i head bytes entries ≡ New → begin_with_init i other others entries ≡ New
 begin_init None head other bytes others entries new = new
 begin_init (Some i) head other bytes others entries new =
@@ -27,11 +28,12 @@ begin_init (Some i) head other bytes others entries new =
       | inr d ↦ let never = rw d at new in absurd (cc)
     ]
 
+-- whether a begin is new doesn't depend on bytes, in a rendition that is there or isn't
 begin_lane : (o : Option Lane) (h k : HeldBytes) (bytes others : List ℕ) (entries : ℕ) → begin o h bytes entries ≡ New → begin o k others entries ≡ New
 begin_lane None h k bytes others entries new = absurd (cc)
 begin_lane (Some l) h k bytes others entries new = begin_init l.init h.head k.head bytes others entries new
 
--- a new unit has no duplicate
+-- a unit that is new has no duplicate among the kept ones, and so passes the tests of a later unit
 later_new : (duplicate : Option (List ℕ)) (l : Lane) (f : Facts) (bytes : List ℕ) (entries : ℕ) → accept_with_duplicate duplicate l f bytes entries ≡ New → accept_later l f entries ≡ New
 later_new None l f bytes entries new = new
 later_new (Some duplicate) l f bytes entries new =
@@ -40,6 +42,7 @@ later_new (Some duplicate) l f bytes entries new =
       | inr d ↦ let never = rw d at new in absurd (cc)
     ]
 
+-- a unit that is new is so with other bytes and other kept ones, if none of these is its duplicate
 accept_init : (i : Option InitData) (l : Lane) (h k : HeldBytes) (f : Facts) (bytes others : List ℕ) (entries : ℕ) → duplicate_in f.start (drop l.floor l.facts) k.units ≡ None
     → accept_with_init i l h f bytes entries ≡ New → accept_with_init i l k f others entries ≡ New
 accept_init None l h k f bytes others entries none new = absurd (cc)
@@ -47,6 +50,7 @@ accept_init (Some i) l h k f bytes others entries none new =
     ap (λ (duplicate : Option (List ℕ)). accept_with_duplicate duplicate l f others entries) none
     ∙ later_new (duplicate_in f.start (drop l.floor l.facts) h.units) l f bytes entries new
 
+-- a unit that is new is so with other bytes and other kept ones, if none of these is its duplicate, whether or not the rendition is there
 accept_lane : (o : Option Lane) (h k : HeldBytes) (f : Facts) (bytes others : List ℕ) (entries : ℕ) → ((l : Lane) → o ≡ Some l → duplicate_in f.start (drop l.floor l.facts) k.units ≡ None)
     → accept o h f bytes entries ≡ New → accept o k f others entries ≡ New
 accept_lane None h k f bytes others entries none new = absurd (cc)
@@ -56,7 +60,7 @@ accept_lane (Some l) h k f bytes others entries none new = accept_init l.init l 
 unfoldable pub with_bytes : State → List HeldBytes → State
 with_bytes s bytes = record { config = s.config; log = s.log; bytes = bytes }
 
--- an event with other bytes of its own, in the state with other bytes
+-- an event that is new is so with other bytes of its own, in the state with other bytes
 new_aside : (s : State) (kept : List HeldBytes) (x y : Event) → IsState s → IsFitting s x → logged_event y ≡ logged_event x → outcome_of s x ≡ New → outcome_of (with_bytes s kept) y ≡ New
 unfolding with_bytes
 new_aside s kept (Begin r init bytes) (Begin q i others) state fits log new =
@@ -80,14 +84,16 @@ new_aside s kept (Trim r n) (Trim q m) state fits log new =
     rw (at, to) new
 new_aside s kept x y state fits log new = absurd (cc)
 
+-- a state with the configuration and the log of another one is that one with its own bytes
 with_bytes_is : (s t : State) → t.config ≡ s.config → t.log ≡ s.log → with_bytes s t.bytes ≡ t
 unfolding with_bytes
 with_bytes_is s t config log = sym (λ k. record { config = config k; log = log k; bytes = t.bytes })
 
--- in any state of the same configuration and log
+-- an event that is new is so with other bytes, in any state with the same configuration and log
 pub new_alike : (s t : State) (x y : Event) → IsState s → t.config ≡ s.config → t.log ≡ s.log → IsFitting s x → logged_event y ≡ logged_event x → outcome_of s x ≡ New → outcome_of t y ≡ New
 new_alike s t x y state config log fits same new =
     subst (λ (z : State). outcome_of z y ≡ New) (with_bytes_is s t config log) (new_aside s t.bytes x y state fits same new)
 
+-- two events that are logged as the same event, by the same worker, have the same entry
 pub entry_alike : (by other : ℕ) (x y : Event) → other ≡ by → logged_event y ≡ logged_event x → entry_of other y ≡ entry_of by x
 entry_alike by other x y same log = λ k. record { by = same k; event = log k }

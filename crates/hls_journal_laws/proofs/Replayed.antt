@@ -1,4 +1,4 @@
--- The replay of substitutes comes to the same state.
+-- The replay of substitutes leads to the same state.
 use Rattle.std.proofs.Common.{◌≡◌, ◌≢◌, ◌∙◌, ℕ, ◌+◌, ◌-◌, ◌<◌, ◌≤◌, List, [], ◌∷◌, ◌++◌, length, drop, get_or, set, Some, refl, sym, ap, subst, inl, inr, arith}
 use Rattle.std.specs.Prelude.{◌⊎◌, slice_get, slice_set, slice_index_or}
 use Rattle.std.proofs.lemmas.List.{length-set, ext_get_or}
@@ -29,17 +29,17 @@ record DifferBelow (floors : ℕ → ℕ) (s t : State) : Type 0 where
   counts : length t.bytes ≡ length s.bytes
   kept : (r : ℕ) → AgreeFrom (floors r - (lane (channel s) r).floor) (held_bytes s r) (held_bytes t r)
 
--- two lists of kept bytes that differ below the floors alone, by the channel's lanes
+-- two lists of kept bytes agree in each rendition from the given floor on
 abbrev KeepAlike : (ℕ → ℕ) → Channel → List HeldBytes → List HeldBytes → Type 0
 KeepAlike floors ch xs ys = (r : ℕ) → AgreeFrom (floors r - (lane ch r).floor) (get_or xs r no_bytes) (get_or ys r no_bytes)
 
--- a rendition that has a lane
+-- a rendition that has a lane has kept bytes
 in_range : (s : State) (q : ℕ) (l : Lane) → IsState s → slice_get (channel s).lanes q ≡ Some l → (q < length (channel s).lanes) × (q < length s.bytes)
 in_range s q l state at =
     let within : q < length (channel s).lanes = slice_get_within (channel s).lanes q l at in
     (within, omega (arith, within, state.counts_agree))
 
--- keeps its units from the floor on
+-- a rendition keeps each unit from its floor on
 units_kept : (s : State) (q : ℕ) (l : Lane) → IsState s → slice_get (channel s).lanes q ≡ Some l → (lane (channel s) q).floor + length (held_bytes s q).units ≡ length (lane (channel s) q).facts
 units_kept s q l state at =
     let beside = at_beside (channel s).lanes s.bytes q l state.counts_agree at in
@@ -49,7 +49,7 @@ units_kept s q l state at =
     subst (λ (x : Lane). x.floor + length (held_bytes s q).units ≡ length x.facts) (sym lane_is)
     (subst (λ (h : HeldBytes). l.floor + length h.units ≡ length l.facts) (sym held_is) fits.kept)
 
--- a lane changes, and its floor stays
+-- if a rendition's lane is replaced by one with the same floor in two such states, and its bytes by ones that agree, all bytes still agree
 alike_set : (floors : ℕ → ℕ) (s t : State) (q : ℕ) (l : Lane) (a b : HeldBytes) → DifferBelow floors s t → q < length (channel s).lanes → q < length s.bytes → l.floor ≡ (lane (channel s) q).floor
     → AgreeFrom (floors q - (lane (channel s) q).floor) a b → KeepAlike floors (with_lane (channel s) q l) (set s.bytes q a) (set t.bytes q b)
 alike_set floors s t q l a b differ within in_bytes same agree =
@@ -58,6 +58,7 @@ alike_set floors s t q l a b differ within in_bytes same agree =
     (subst (λ (f : ℕ). AgreeFrom (floors q - f) a b) (sym (stays q)) agree)
     (λ r there. ap (λ f. floors r - f) (stays r))
 
+-- after a unit, the bytes still agree: both get the same unit, or any if its number is below the floor
 accept_alike : (floors : ℕ → ℕ) (s t : State) (q : ℕ) (f : Facts) (b c : List ℕ) → DifferBelow floors s t → IsState s → IsFitting s (Accept q f b) → outcome_of s (Accept q f b) ≡ New
     → (c ≡ b) ⊎ (length (lane (channel s) q).facts < floors q)
     → KeepAlike floors (channel_after (Accepted q f) (channel s)) (bytes_after s (Accept q f b)) (bytes_after t (Accept q f c))
@@ -70,6 +71,7 @@ accept_alike floors s t q f b c differ state fits new replaces =
     alike_set floors s t q (with_facts f (lane (channel s) q)) (push_unit_bytes (held_bytes s q) b) (push_unit_bytes (held_bytes t q) c) differ range.0 range.1 refl
     (agree_pushed (floors q - (lane (channel s) q).floor) (held_bytes s q) (held_bytes t q) b c (differ.kept q) either)
 
+-- after a trim that is new, the bytes still agree
 trim_alike : (floors : ℕ → ℕ) (s t : State) (q floor : ℕ) → DifferBelow floors s t → IsState s → outcome_of s (Trim q floor) ≡ New
     → KeepAlike floors (channel_after (Trimmed q floor) (channel s)) (bytes_after s (Trim q floor)) (bytes_after t (Trim q floor))
 trim_alike floors s t q floor differ state new =
@@ -89,7 +91,7 @@ trim_alike floors s t q floor differ state new =
     (subst (λ (k : ℕ). AgreeFrom (floors q - floor) (drop_unit_bytes (held_bytes s q) (floor - (lane (channel s) q).floor)) (drop_unit_bytes (held_bytes t q) k)) (sym gone) less))
     (λ r there. ap (λ (l : Lane). floors r - l.floor) (lane_else (channel s) q r (with_floor floor (lane (channel s) q)) there))
 
--- the same event
+-- after the same event, the bytes still agree
 same_alike : (floors : ℕ → ℕ) (s t : State) (x : Event) → DifferBelow floors s t → IsState s → IsFitting s x → outcome_of s x ≡ New → KeepAlike floors (channel_after (logged_event x) (channel s)) (bytes_after s x) (bytes_after t x)
 same_alike floors s t (Begin q init bytes) differ state fits new =
     let b = may_add s (Begin q init bytes) fits new in
@@ -104,7 +106,7 @@ same_alike floors s t (Finish q) differ state fits new =
 same_alike floors s t (Slide count) differ state fits new = differ.kept
 same_alike floors s t (Trim q floor) differ state fits new = trim_alike floors s t q floor differ state new
 
--- or another unit below the floor
+-- after an event with another unit below the floor, the bytes still agree
 below_alike : (floors : ℕ → ℕ) (s t : State) (x y : Event) → DifferBelow floors s t → IsState s → IsFitting s x → outcome_of s x ≡ New → logged_event y ≡ logged_event x → IsBelow floors s x
     → KeepAlike floors (channel_after (logged_event x) (channel s)) (bytes_after s x) (bytes_after t y)
 below_alike floors s t (Accept q f b) (Accept p g c) differ state fits new same below =
@@ -122,6 +124,7 @@ below_alike floors s t (Finish q) y differ state fits new same below = absurd be
 below_alike floors s t (Slide n) y differ state fits new same below = absurd below
 below_alike floors s t (Trim q n) y differ state fits new same below = absurd below
 
+-- an event leaves the number of renditions that keep bytes
 counts_stay : (s : State) (event : Event) → length (bytes_after s event) ≡ length s.bytes
 counts_stay s (Begin r init bytes) = length-set s.bytes r (record { head = bytes; units = [] })
 counts_stay s (Accept r f bytes) = length-set s.bytes r (push_unit_bytes (held_bytes s r) bytes)
@@ -129,16 +132,19 @@ counts_stay s (Finish r) = refl
 counts_stay s (Slide count) = refl
 counts_stay s (Trim r floor) = length-set s.bytes r (drop_unit_bytes (held_bytes s r) (floor - (lane (channel s) r).floor))
 
+-- an event and the one that replaces it are logged as the same event
 logged_alike : (floors : ℕ → ℕ) (s : State) (x y : Event) → Replaces floors s x y → logged_event y ≡ logged_event x
 logged_alike floors s x y (inl same) = ap logged_event same
 logged_alike floors s x y (inr other) = other.0
 
+-- after an event and the one that replaces it, the bytes still agree
 replaced_alike : (floors : ℕ → ℕ) (s t : State) (x y : Event) → DifferBelow floors s t → IsState s → IsFitting s x → outcome_of s x ≡ New → Replaces floors s x y
     → KeepAlike floors (channel_after (logged_event x) (channel s)) (bytes_after s x) (bytes_after t y)
 replaced_alike floors s t x y differ state fits new (inl same) =
     subst (λ (e : Event). KeepAlike floors (channel_after (logged_event x) (channel s)) (bytes_after s x) (bytes_after t e)) (sym same) (same_alike floors s t x differ state fits new)
 replaced_alike floors s t x y differ state fits new (inr other) = below_alike floors s t x y differ state fits new other.0 other.1
 
+-- two states that differ only below the floors still do after an event and the one that replaces it
 step_alike : (floors : ℕ → ℕ) (s t : State) (by other : ℕ) (x y : Event) → DifferBelow floors s t → IsState s → IsFitting s x → outcome_of s x ≡ New → other ≡ by → Replaces floors s x y
     → DifferBelow floors (state_with_entry s by x) (state_with_entry t other y)
 step_alike floors s t by other x y differ state fits new worker replaces = record {
@@ -149,10 +155,11 @@ step_alike floors s t by other x y differ state fits new worker replaces = recor
       (replaced_alike floors s t x y differ state fits new replaces r);
 }
 
+-- after a new event, the next state has its entry
 next_new : (s : State) (by : ℕ) (event : Event) → outcome_of s event ≡ New → next_state s by event ≡ state_with_entry s by event
 next_new s by event new = ap (λ o. state_by_outcome o (state_with_entry s by event) s) new
 
--- two replays side by side
+-- the substitutes of new events are new, and their replay differs from that of the events only below the floors
 replays_alike : (floors : ℕ → ℕ) (s t : State) (past others : List (ℕ × Event)) → DifferBelow floors s t → IsState s → AreFitting s past → AreNew s past → AreSubstitutes floors s past others
     → AreNew t others × DifferBelow floors (replayed_state s past) (replayed_state t others)
 replays_alike floors s t [] [] differ state fits new same = (tt, differ)
@@ -166,10 +173,11 @@ replays_alike floors s t (x ∷ xs) (y ∷ ys) differ state fits new same =
     let rest = replays_alike floors (next_state s x.0 x.1) (next_state t y.0 y.1) xs ys next (next_is_state s x.0 x.1 state fits.0) fits.1 new.1 same.2 in
     ((here, rest.0), rest.1)
 
--- if nothing kept is below the floors, the states are one
+-- kept bytes that agree from number 0 on are equal
 same_held : (h k : HeldBytes) → AgreeFrom 0 h k → k ≡ h
 same_held h k agree = λ i. record { head = agree.head i; units = agree.rest i }
 
+-- two states that differ only below the floors are equal once each floor is reached
 one_state : (floors : ℕ → ℕ) (s t : State) → DifferBelow floors s t → ((r : ℕ) → floors r ≤ (lane (channel s) r).floor) → t ≡ s
 one_state floors s t differ low =
     let all : (r : ℕ) → held_bytes t r ≡ held_bytes s r = λ r.
@@ -178,6 +186,7 @@ one_state floors s t differ low =
     let bytes : t.bytes ≡ s.bytes = ext_get_or no_bytes t.bytes s.bytes differ.counts (λ r within. all r) in
     λ i. record { config = differ.config i; log = differ.log i; bytes = bytes i }
 
+-- the substitutes of new events lead to the same state, if the floors are reached in the end
 pub substitutes-replay-alike : SubstitutesReplayAlike
 substitutes-replay-alike config floors past others configured fits new same low =
     let state : IsState (first_state config) = first_is_state config configured in

@@ -29,6 +29,7 @@ use Rattle.hls_journal_laws.specs.Restored.{IsRecordOf, IsStored, IsStoredUnit, 
 use Rattle.hls_journal_laws.specs.Written.{IsUnitRecord, IsWritten, KeepsUnit, AreWritten}
 use Rattle.hls_journal_laws.specs.Laws.{RestoredIsReplayed}
 
+-- the kind of an event's record
 kind_of : Event → ℕ
 kind_of (Begin r init bytes) = 1
 kind_of (Accept r f bytes) = 2
@@ -36,6 +37,7 @@ kind_of (Finish r) = 3
 kind_of (Slide count) = 4
 kind_of (Trim r floor) = 5
 
+-- the kind of an event's record is below 6
 kind_small : (x : Event) → kind_of x < 6
 unfolding kind_of
 kind_small (Begin r init bytes) = omega arith
@@ -44,6 +46,7 @@ kind_small (Finish r) = omega arith
 kind_small (Slide count) = omega arith
 kind_small (Trim r floor) = omega arith
 
+-- a record that is of an event has the event's kind
 record_kind : (floors : ℕ → ℕ) (media : List StoredMedia) (s : State) (body : List ℕ) (x : Event) → IsRecordOf floors media s body x → kind_in body ≡ kind_of x
 unfolding kind_of
 record_kind floors media s body (Begin r init bytes) of = of.0
@@ -52,6 +55,7 @@ record_kind floors media s body (Finish r) of = of.0
 record_kind floors media s body (Slide count) of = of.0
 record_kind floors media s body (Trim r floor) of = of.0
 
+-- the record that is written of an event has the event's kind
 written_kind : (s : State) (body : List ℕ) (x : Event) → IsWritten s body x → kind_in body ≡ kind_of x
 unfolding kind_of
 written_kind s body (Begin r init bytes) written = written.0
@@ -60,10 +64,11 @@ written_kind s body (Finish r) written = written.0
 written_kind s body (Slide count) written = written.0
 written_kind s body (Trim r floor) written = written.0
 
+-- a result has only one value
 same_ok : {A E : Type 0} → (o : Result A E) (x y : A) → o ≡ Ok x → o ≡ Ok y → y ≡ x
 same_ok {A = A} {E = E} o x y one other = let both : Ok y ≡ Ok x = sym other ∙ one in cc
 
--- the facts of what replaces a unit
+-- what replaces a trimmed unit has the unit's facts
 trimmed_facts : (init : InitData) (at : ℕ) (bytes body others : List ℕ) → IsUnitRecord at bytes body → others ≡ unit_head_in body ++ replicate (unit_len_in body - length (unit_head_in body)) 0
     → facts init others ≡ facts init bytes
 trimmed_facts init at bytes body others written is =
@@ -75,7 +80,7 @@ trimmed_facts init at bytes body others written is =
     ∙ heads-determine-facts init (unit_head_in body) written.rest (replicate (unit_len_in body - length (unit_head_in body)) 0) written.head long
     ∙ ap (λ b. facts init b) (sym written.split)
 
--- the stored bytes of a unit are the unit's
+-- what the media have of a unit from the floor on are the unit's bytes
 stored_is : (floors : ℕ → ℕ) (media : List StoredMedia) (s t : State) (body : List ℕ) (r q : ℕ) (f : Facts) (bytes others : List ℕ) → channel t ≡ channel s → q ≡ r
     → IsUnitRecord (lane_len (lane (channel s) r)) bytes body → KeepsUnit floors media s (Accept r f bytes)
     → floors q ≤ length (lane (channel t) q).facts → IsStoredUnit media q (lane_len (lane (channel t) q)) body others → others ≡ bytes
@@ -88,7 +93,7 @@ stored_is floors media s t body r q f bytes others same at written keeps high st
     subst (λ (k : ℕ). IsStored stored.0 k (length bytes) others) place (subst (λ (n : ℕ). IsStored stored.0 (lane_len (lane (channel t) q)) n others) written.len stored.2) in
     keeps stored.0 others above there found
 
--- a unit has the facts of what is restored from its record
+-- the facts of a unit are those of what is restored from its record
 same_facts : (floors : ℕ → ℕ) (media : List StoredMedia) (s t : State) (body : List ℕ) (r q : ℕ) (f : Facts) (bytes others : List ℕ) (init : InitData) → channel t ≡ channel s → q ≡ r
     → IsUnitRecord (lane_len (lane (channel s) r)) bytes body → KeepsUnit floors media s (Accept r f bytes) → IsNextUnit floors media t q body others
     → facts init others ≡ facts init bytes
@@ -96,7 +101,7 @@ same_facts floors media s t body r q f bytes others init same at written keeps (
 same_facts floors media s t body r q f bytes others init same at written keeps (inr stored) =
     ap (λ b. facts init b) (stored_is floors media s t body r q f bytes others same at written keeps stored.0 stored.1)
 
--- its event is replaced by what is restored
+-- what is restored from a unit's record replaces the unit: it is the same, or one below the floor that is logged as the same event
 unit_replaced : (floors : ℕ → ℕ) (media : List StoredMedia) (s t : State) (body : List ℕ) (r q : ℕ) (f g : Facts) (bytes others : List ℕ) → channel t ≡ channel s → q ≡ r → g ≡ f
     → IsUnitRecord (lane_len (lane (channel s) r)) bytes body → KeepsUnit floors media s (Accept r f bytes) → IsNextUnit floors media t q body others
     → Replaces floors s (Accept r f bytes) (Accept q g others)
@@ -108,7 +113,7 @@ unit_replaced floors media s t body r q f g bytes others same at facts_are writt
     let bytes_are = stored_is floors media s t body r q f bytes others same at written keeps stored.0 stored.1 in
     inl (λ k. Accept (at k) (facts_are k) (bytes_are k))
 
--- any event is replaced by what is restored from its record
+-- what is restored from the record of an event replaces the event
 replaced : (floors : ℕ → ℕ) (media : List StoredMedia) (s t : State) (body : List ℕ) (x y : Event) → channel t ≡ channel s → IsFitting s x → outcome_of s x ≡ New → IsWritten s body x → KeepsUnit floors media s x
     → IsRecordOf floors media t body y → IsFitting t y → Replaces floors s x y
 unfolding kind_of
@@ -137,21 +142,23 @@ replaced floors media s t body (Trim r n) (Trim q m) same fits new written keeps
     inl (λ k. Trim (at k) (to k))
 replaced floors media s t body x y same fits new written keeps of fit = absurd (omega (arith, record_kind floors media t body y of, written_kind s body x written))
 
+-- an event and the one that replaces it are logged as the same event
 logged_alike : (floors : ℕ → ℕ) (s : State) (x y : Event) → Replaces floors s x y → logged_event y ≡ logged_event x
 logged_alike floors s x y (inl same) = ap logged_event same
 logged_alike floors s x y (inr other) = other.0
 
+-- after a new event, the next state has its entry
 next_new : (s : State) (by : ℕ) (event : Event) → outcome_of s event ≡ New → next_state s by event ≡ state_with_entry s by event
 next_new s by event new = ap (λ o. state_by_outcome o (state_with_entry s by event) s) new
 
--- what is restored from the records of what came: substitutes, each of which is new
+-- a state is the replay of new events that replace those that came
 record IsRestoredBy (floors : ℕ → ℕ) (s t : State) (past : List (ℕ × Event)) (b : State) : Type 0 where
   others : List (ℕ × Event)
   substitutes : AreSubstitutes floors s past others
   new : AreNew t others
   is : b ≡ replayed_state t others
 
--- one more event before
+-- if a state is the replay of what replaces later events, it is that of what replaces an event and then those
 restored_cons : (floors : ℕ → ℕ) (s t : State) (by : ℕ) (x y : Event) (past : List (ℕ × Event)) (b : State) → outcome_of t y ≡ New → Replaces floors s x y
     → IsRestoredBy floors (next_state s by x) (state_with_entry t by y) past b → IsRestoredBy floors s t ((by, x) ∷ past) b
 restored_cons floors s t by x y past b new replaces rest =
@@ -163,12 +170,15 @@ restored_cons floors s t by x y past b new replaces rest =
       is = rest.is ∙ ap (λ (z : State). replayed_state z rest.others) next;
     }
 
+-- a record that is of an event isn't one of no event
 no_aside : (floors : ℕ → ℕ) (media : List StoredMedia) (t : State) (body : List ℕ) (x : Event) → IsRecordOf floors media t body x → IsAside body → ⊥
 no_aside floors media t body x of aside = omega (arith, record_kind floors media t body x of, kind_small x, aside.0)
 
+-- a record that is written of an event isn't one of no event
 no_aside_written : (s : State) (body : List ℕ) (x : Event) → IsWritten s body x → IsAside body → ⊥
 no_aside_written s body x written aside = omega (arith, written_kind s body x written, kind_small x, aside.0)
 
+-- what the records of new events restore is the replay of new events that replace them
 restored_by : (floors : ℕ → ℕ) (media : List StoredMedia) (s t : State) (bodies : List (List ℕ)) (past : List (ℕ × Event)) (b : State) → t.config ≡ s.config → t.log ≡ s.log → IsState s
     → AreFitting s past → AreNew s past → AreWritten floors media s bodies past → Restores floors media t bodies b → IsRestoredBy floors s t past b
 restored_by floors media s t [] [] b config log state fits new written restores = record { others = []; substitutes = tt; new = tt; is = restores }
@@ -196,6 +206,7 @@ restored_by floors media s t (body ∷ bodies) (e ∷ es) b config log state fit
     (subst (λ (z : State). Restores floors media z bodies b) next restores.2) in
     restored_cons floors s t e.0 e.1 restores.1.event es b restores.1.new replaces rest
 
+-- the records of the events that came restore the state that the events lead to, if no floor is above the one in that state
 pub restored-is-replayed : RestoredIsReplayed
 restored-is-replayed config floors media bodies past s configured fits new written restores low =
     let by = restored_by floors media (first_state config) (first_state config) bodies past s refl refl (first_is_state config configured) fits new written restores in

@@ -24,24 +24,26 @@ AreRecords s (body ∷ bodies) (e ∷ es) =
     (IsAside body × AreRecords s bodies (e ∷ es))
     ⊎ ((worker_in body ≡ e.0) × IsWritten s body e.1 × AreRecords (next_state s e.0 e.1) bodies es)
 
--- the media have the units of these events, but for those below the floors
+-- what the media have of these events' units is the units' bytes, but for those below the floors
 abbrev pub KeepUnits : (ℕ → ℕ) → List StoredMedia → State → List (ℕ × Event) → Type 0
 KeepUnits floors media s [] = Unit {0}
 KeepUnits floors media s (e ∷ es) = KeepsUnit floors media s e.1 × KeepUnits floors media (next_state s e.0 e.1) es
 
--- how many of the records are of an event
+-- whether a record is of no event
 abbrev pub is_aside : List ℕ → Bool
 is_aside body = nat_le 6 (kind_in body) && nat_le (kind_in body) 8
 
+-- a count of records that one of an event raises by 1, and one of no event leaves
 abbrev pub counted : Bool → ℕ → ℕ
 counted true n = n
 counted false n = suc n
 
+-- how many of the records are of an event
 abbrev pub count_events : List (List ℕ) → ℕ
 count_events [] = 0
 count_events (body ∷ bodies) = counted (is_aside body) (count_events bodies)
 
--- the record of a channel, and those of the events that came, each of which was new
+-- a journal's records are that of a channel, and those of the events that came, all of them new
 pub record IsJournal (config : ConfigData) (channel : List ℕ) (records : List (List ℕ)) (past : List (ℕ × Event)) : Type 0 where
   pub configured : IsConfig config
   pub fits : AreFitting (first_state config) past
@@ -49,7 +51,8 @@ pub record IsJournal (config : ConfigData) (channel : List ℕ) (records : List 
   pub small : AreWithinLimit (channel ∷ records)
   pub written : AreRecords (first_state config) records past
 
--- the records that are read after a crash are among those that were written; the units of their events are stored, but for trimmed ones
+-- the records that are read after a crash are the first of those that were written; what the media have of
+-- their units is the units' bytes, but for trimmed ones
 pub record AreFound (config : ConfigData) (media : List StoredMedia) (channel : List ℕ) (records : List (List ℕ)) (past : List (ℕ × Event)) (found : List (List ℕ)) : Type 0 where
   pub prefix : found ≡ take (length found) (channel ∷ records)
   pub stored : KeepUnits (highest_floor (drop 1 found)) media (first_state config) (take (count_events (drop 1 found)) past)

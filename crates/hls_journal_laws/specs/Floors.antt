@@ -6,7 +6,7 @@ use Rattle.hls_journal_laws.specs.Bodies.{kind_in, rendition_in, number_in}
 abbrev pub floor_in : List ℕ → ℕ → ℕ
 floor_in body r = if (length body == 12) && (kind_in body == 5) && (rendition_in body == r) then number_in body else 0
 
--- the highest of records
+-- the highest floor to which records trim a rendition, or 0
 abbrev pub highest_floor : List (List ℕ) → ℕ → ℕ
 highest_floor [] r = 0
 highest_floor (body ∷ bodies) r = max (floor_in body r) (highest_floor bodies r)

@@ -1,3 +1,5 @@
+-- The definitions of what a journal's records mean: heads of units, replays of events, substitutes for trimmed units, bodies, restored states,
+-- floors, players across a restart, and crashes; and the laws.
 pub mod Heads
 pub mod Replays
 pub mod Substitutes

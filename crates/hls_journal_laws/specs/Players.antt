@@ -24,7 +24,7 @@ use Rattle.hls_journal_laws.specs.Written.{AreWritten}
 abbrev pub state_after : ConfigData → List (ℕ × Event) → ℕ → State
 state_after config past count = replayed_state (first_state config) (take count past)
 
--- of the events that came, each of which was new, the journal has the records of the first, and with the stored media they restore a state
+-- the journal has the records of the first `count` events that came, all of them new, and with the stored media they restore a state
 pub record IsRestart (config : ConfigData) (media : List StoredMedia) (bodies : List (List ℕ)) (past : List (ℕ × Event)) (count : ℕ) (s : State) : Type 0 where
   pub configured : IsConfig config
   pub fits : AreFitting (first_state config) past
@@ -32,28 +32,28 @@ pub record IsRestart (config : ConfigData) (media : List StoredMedia) (bodies : 
   pub written : AreWritten (highest_floor bodies) media (first_state config) bodies (take count past)
   pub restores : Restores (highest_floor bodies) media (first_state config) bodies s
 
--- the restored state is the one that these events led to, and follows each state before
+-- the restored state is the one that these events led to, and follows the state after each prefix of them
 abbrev pub RestoredStatesFollow : Type 0
 RestoredStatesFollow =
     (config : ConfigData) (media : List StoredMedia) (bodies : List (List ℕ)) (past : List (ℕ × Event)) (j k : ℕ) (s : State)
     → IsRestart config media bodies past k s → j ≤ k
     → (s ≡ state_after config past k) × IsState (state_after config past j) × Follows (state_after config past j) s
 
--- a live list was sent of the state after j events: that of the restored state is valid as a later one
+-- if a live list was sent of the state after j events, that of the restored state is valid as a later one
 abbrev pub ListsContinue : Type 0
 ListsContinue =
     (config : ConfigData) (media : List StoredMedia) (bodies : List (List ℕ)) (past : List (ℕ × Event)) (j k r : ℕ) (s : State) (earlier : Playlist)
     → IsRestart config media bodies past k s → j ≤ k → list_from config.base (state_after config past j) r ≡ Some earlier
     → (later : Playlist) × (list_from config.base s r ≡ Some later) × IsLater earlier later
 
--- so is a path list
+-- if a live list by paths was sent of the state after j events, that of the restored state is valid as a later one
 abbrev pub PathListsContinue : Type 0
 PathListsContinue =
     (config : ConfigData) (media : List StoredMedia) (bodies : List (List ℕ)) (past : List (ℕ × Event)) (j k r : ℕ) (s : State) (earlier : Playlist)
     → IsRestart config media bodies past k s → j ≤ k → path_list_of (state_after config past j) r ≡ Some earlier
     → (later : Playlist) × (path_list_of s r ≡ Some later) × IsLater earlier later
 
--- units that a path named in the state after j events: it names the same ones with the same bytes, or the first of them is trimmed
+-- a path that named units in the state after j events names the same ones with the same bytes after the restart, or the first is trimmed
 abbrev pub PathsNameTheSame : Type 0
 PathsNameTheSame =
     (config : ConfigData) (media : List StoredMedia) (bodies : List (List ℕ)) (past : List (ℕ × Event)) (j k : ℕ) (s : State)

@@ -9,7 +9,7 @@ use Rattle.hls_core_laws.specs.Moves.{logged_event}
 use Rattle.hls_core_laws.specs.Runs.{first_state, next_state, replayed_state, AreFitting}
 use Rattle.hls_journal_laws.specs.Replays.{AreNew}
 
--- the event brings a unit whose number is below this floor of its rendition
+-- the event is of a unit whose number is below this floor of its rendition
 abbrev pub IsBelow : (ℕ → ℕ) → State → Event → Type 0
 IsBelow floors s (Begin r init bytes) = ⊥
 IsBelow floors s (Accept r f bytes) = length (lane (channel s) r).facts < floors r
@@ -17,7 +17,7 @@ IsBelow floors s (Finish r) = ⊥
 IsBelow floors s (Slide count) = ⊥
 IsBelow floors s (Trim r floor) = ⊥
 
--- the second event replaces the first: it is the same, or another unit below the floor that is logged alike
+-- the second event replaces the first: it is the same, or another unit below the floor that is logged as the same event
 abbrev pub Replaces : (ℕ → ℕ) → State → Event → Event → Type 0
 Replaces floors s x y = (y ≡ x) ⊎ ((logged_event y ≡ logged_event x) × IsBelow floors s x)
 
@@ -28,7 +28,7 @@ AreSubstitutes floors s [] (y ∷ ys) = ⊥
 AreSubstitutes floors s (x ∷ xs) [] = ⊥
 AreSubstitutes floors s (x ∷ xs) (y ∷ ys) = (y.0 ≡ x.0) × Replaces floors s x.1 y.1 × AreSubstitutes floors (next_state s x.0 x.1) xs ys
 
--- no state shows the difference, if the floors are reached in the end
+-- events that replace new ones are new, and lead to the same state, if the floors are reached in the end
 abbrev pub SubstitutesReplayAlike : Type 0
 SubstitutesReplayAlike =
     (config : ConfigData) (floors : ℕ → ℕ) (past others : List (ℕ × Event)) → IsConfig config

@@ -26,7 +26,7 @@ IsWritten s body (Finish r) = (kind_in body ≡ 3) × (rendition_in body ≡ r)
 IsWritten s body (Slide count) = (kind_in body ≡ 4) × (number_in body ≡ count)
 IsWritten s body (Trim r floor) = (kind_in body ≡ 5) × (rendition_in body ≡ r) × (number_in body ≡ floor)
 
--- the media have the event's unit, if they have the bytes at its offset and its number isn't below the floor
+-- if the event is of a unit whose number isn't below the floor, the bytes that the media have at its offset are the unit's
 abbrev pub KeepsUnit : (ℕ → ℕ) → List StoredMedia → State → Event → Type 0
 KeepsUnit floors media s (Begin r init bytes) = Unit {0}
 KeepsUnit floors media s (Accept r f bytes) =
@@ -36,7 +36,7 @@ KeepsUnit floors media s (Finish r) = Unit {0}
 KeepsUnit floors media s (Slide count) = Unit {0}
 KeepsUnit floors media s (Trim r floor) = Unit {0}
 
--- these records are of these events, one by one, but for records aside; the media keep their units
+-- the records are of these events, one by one, with records of no event among them; what the media have of their units are the units' bytes
 abbrev pub AreWritten : (ℕ → ℕ) → List StoredMedia → State → List (List ℕ) → List (ℕ × Event) → Type 0
 AreWritten floors media s [] [] = Unit {0}
 AreWritten floors media s [] (e ∷ es) = ⊥

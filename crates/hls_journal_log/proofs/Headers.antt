@@ -11,13 +11,16 @@ use Rattle.hls_journal_log.specs.Records.{header_len, body_limit, checksum, reco
 use Rattle.hls_journal_log.specs.Reading.{Stops, Reads}
 use Rattle.hls_journal_log.specs.Laws.{CompleteRecordsAreRead}
 
+-- a body is within the limit of its length
 WithinLimit : List ℕ → Type 0
 WithinLimit body = length body ≤ body_limit
 
+-- if all bodies are within the limit, so is the first one
 pub first_within : (body : List ℕ) (bodies : List (List ℕ)) → AreWithinLimit (body ∷ bodies) → length body ≤ body_limit
 unfolding WithinLimit
 first_within body bodies within = All-head WithinLimit body bodies within
 
+-- if all bodies are within the limit, so are those after the first one
 pub others_within : (body : List ℕ) (bodies : List (List ℕ)) → AreWithinLimit (body ∷ bodies) → AreWithinLimit bodies
 unfolding WithinLimit
 others_within body bodies within = All-tail WithinLimit body bodies within
@@ -35,29 +38,33 @@ length_len body = length-bytes_low_first 0 4 (length body)
 length_sum : (number : ℕ) (body : List ℕ) → length (checksum number body) ≡ 8
 length_sum number body = length-bytes_low_first 0 8 (checksum_of number body)
 
+-- a record has twelve bytes more than its body
 pub length_record : (number : ℕ) (body : List ℕ) → length (record_bytes number body) ≡ 12 + length body
 length_record number body =
     let all = length-append (little_bytes 4 (length body) ++ checksum number body) body in
     let head = length-append (little_bytes 4 (length body)) (checksum number body) in
     omega (arith, all, head, length_len body, length_sum number body)
 
--- a record's parts
+-- a record and what follows it are the length in four bytes, the checksum, the body, and what follows
 pub record_parts : (number : ℕ) (body behind : List ℕ) → record_bytes number body ++ behind ≡ little_bytes 4 (length body) ++ (checksum number body ++ (body ++ behind))
 record_parts number body behind =
     append_assoc (little_bytes 4 (length body) ++ checksum number body) body behind
     ∙ append_assoc (little_bytes 4 (length body)) (checksum number body) (body ++ behind)
 
+-- the length that a record's header says is the body's length
 len_read : (number : ℕ) (body behind : List ℕ) → length body ≤ body_limit → body_len_in (record_bytes number body ++ behind) ≡ length body
 len_read number body behind small =
     ap (λ t. little_number 4 t) (record_parts number body behind)
     ∙ little_number-reads_back 4 (length body) (checksum number body ++ (body ++ behind)) (omega (arith, small))
 
+-- the checksum that a record's header says is that of its number and body
 sum_read : (number : ℕ) (body behind : List ℕ) → checksum_in (record_bytes number body ++ behind) ≡ checksum number body
 sum_read number body behind =
     ap (λ t. take 8 (drop 4 t)) (record_parts number body behind)
     ∙ ap (λ t. take 8 t) (drop_at (little_bytes 4 (length body)) (checksum number body ++ (body ++ behind)) 4 (length_len body))
     ∙ take_at (checksum number body) (body ++ behind) 8 (length_sum number body)
 
+-- after its header, a record has its body, and what follows the record
 pub behind_header : (number : ℕ) (body behind : List ℕ) → drop header_len (record_bytes number body ++ behind) ≡ body ++ behind
 behind_header number body behind =
     let head = length-append (little_bytes 4 (length body)) (checksum number body) in
@@ -65,12 +72,14 @@ behind_header number body behind =
     ap (λ t. drop header_len t) (append_assoc (little_bytes 4 (length body) ++ checksum number body) body behind)
     ∙ drop_at (little_bytes 4 (length body) ++ checksum number body) (body ++ behind) 12 twelve
 
+-- the body that is read from a record is the record's
 body_read : (number : ℕ) (body behind : List ℕ) → length body ≤ body_limit → body_in (record_bytes number body ++ behind) ≡ body
 body_read number body behind small =
     ap (λ k. take k (drop header_len (record_bytes number body ++ behind))) (len_read number body behind small)
     ∙ ap (λ t. take (length body) t) (behind_header number body behind)
     ∙ take_at body behind (length body) refl
 
+-- a record of a body within the limit, whatever follows it, starts with that record
 pub starts_with : (number : ℕ) (body behind : List ℕ) → length body ≤ body_limit → StartsWith number body (record_bytes number body ++ behind)
 starts_with number body behind small = record {
   len = len_read number body behind small;
@@ -79,7 +88,7 @@ starts_with number body behind small = record {
   long = omega (arith, length-append (record_bytes number body) behind, length_record number body);
 }
 
--- reading doesn't stop at a record
+-- reading doesn't stop at the start of a record
 pub never_stops : (number : ℕ) (body text : List ℕ) (ending : Ending) → length body ≤ body_limit → StartsWith number body text → Stops number text ending → ⊥
 never_stops number body text Complete small at stops =
     let none : length text ≡ 0 = ap length stops in
@@ -134,10 +143,11 @@ all_read number (body ∷ bodies) behind found ending small reads =
     let count : suc number + length bodies ≡ number + suc (length bodies) = omega arith in
     (rest.0, one.1 ∙ ap (λ fs. body ∷ fs) rest.1, subst (λ (k : ℕ). Reads k behind rest.0 ending) count rest.2)
 
+-- complete records are read first, in order, whatever follows them
 pub complete-records-are-read : CompleteRecordsAreRead
 complete-records-are-read number bodies behind found ending small reads = all_read number bodies behind found ending small reads
 
--- a record that is put together after a text
+-- appending the length, the checksum and the body to a text appends the record
 pub record_pushed : (old : List ℕ) (number : ℕ) (body first second third : List ℕ) → first ≡ old ++ little_bytes 4 (length body) → second ≡ first ++ checksum number body
     → third ≡ second ++ body → third ≡ old ++ record_bytes number body
 record_pushed old number body first second third one two three =

@@ -1,3 +1,4 @@
+-- The lemmas on a journal's log: checksums, headers of records, sync points, prefixes of a log, crashes, and what opening a log leaves.
 pub mod Checksums
 pub mod Headers
 pub mod Prefixes

@@ -9,6 +9,7 @@ use Rattle.hls_journal_log.specs.SyncPoints.{sync_mark, sync_point_body, number_
 use Rattle.hls_journal_log.specs.Laws.{SyncPointsAreFound, SyncedBytesAreRead}
 use Rattle.hls_journal_log.proofs.Headers.{StartsWith, starts_with, behind_header}
 
+-- the body of a sync point has 24 bytes
 pub length_sync_point : (number synced : ℕ) → length (sync_point_body number synced) ≡ 24
 length_sync_point number synced =
     let all = length-append (sync_mark ++ little_bytes 8 number) (little_bytes 8 synced) in
@@ -17,24 +18,26 @@ length_sync_point number synced =
     let two : length (little_bytes 8 synced) ≡ 8 = length-bytes_low_first 0 8 synced in
     omega (arith, all, head, one, two)
 
--- the parts of a sync point and what follows it
+-- the body of a sync point and what follows it are the mark, the number, the synced length, and what follows
 parts : (number synced : ℕ) (behind : List ℕ) → sync_point_body number synced ++ behind ≡ sync_mark ++ (little_bytes 8 number ++ (little_bytes 8 synced ++ behind))
 parts number synced behind =
     append_assoc (sync_mark ++ little_bytes 8 number) (little_bytes 8 synced) behind
     ∙ append_assoc sync_mark (little_bytes 8 number) (little_bytes 8 synced ++ behind)
 
--- what follows the mark
+-- after its mark, a sync point has its number, its synced length, and what follows the record
 behind_mark : (number synced : ℕ) (behind : List ℕ) → drop 20 (record_bytes number (sync_point_body number synced) ++ behind) ≡ little_bytes 8 number ++ (little_bytes 8 synced ++ behind)
 behind_mark number synced behind =
     sym (drop-drop 8 12 (record_bytes number (sync_point_body number synced) ++ behind))
     ∙ ap (λ t. drop 8 t) (behind_header number (sync_point_body number synced) behind ∙ parts number synced behind)
     ∙ drop_at sync_mark (little_bytes 8 number ++ (little_bytes 8 synced ++ behind)) 8 refl
 
+-- the number that is read from a sync point is its own
 number_read : (number synced : ℕ) (behind : List ℕ) → number < 2 ^ 64 → number_in (record_bytes number (sync_point_body number synced) ++ behind) ≡ number
 number_read number synced behind small =
     ap (λ t. little_number 8 t) (behind_mark number synced behind)
     ∙ little_number-reads_back 8 number (little_bytes 8 synced ++ behind) (omega (arith, small))
 
+-- the synced length that is read from a sync point is its own
 synced_read : (number synced : ℕ) (behind : List ℕ) → synced < 2 ^ 64 → synced_in (record_bytes number (sync_point_body number synced) ++ behind) ≡ synced
 synced_read number synced behind small =
     ap (λ t. little_number 8 t)
@@ -43,6 +46,7 @@ synced_read number synced behind small =
     ∙ drop_at (little_bytes 8 number) (little_bytes 8 synced ++ behind) 8 (length-bytes_low_first 0 8 number))
     ∙ little_number-reads_back 8 synced behind (omega (arith, small))
 
+-- a sync point that is written is recognized, with its synced length, whatever follows it
 pub sync-points-are-found : SyncPointsAreFound
 sync-points-are-found number synced behind number_small synced_small =
     let len = length_sync_point number synced in
@@ -63,6 +67,7 @@ sync-points-are-found number synced behind number_small synced_small =
       synced_read number synced behind synced_small,
     )
 
+-- a log that isn't damaged is read at least up to the place that a sync point in it names, if that is before it
 pub synced-bytes-are-read : SyncedBytesAreRead
 synced-bytes-are-read text rest number bodies at is undamaged point before =
     elim (cases_lt at (length (log_bytes number bodies))) [
@@ -77,10 +82,11 @@ synced-bytes-are-read text rest number bodies at is undamaged point before =
           ])
     ]
 
--- no sync point before a place of a text names a later byte than this
+-- no sync point before byte `at` of a text names a byte after this place
 abbrev pub NoneSoFar : ℕ → List ℕ → ℕ → Type 0
 NoneSoFar place text at = (k : ℕ) → k < at → IsSyncPoint (drop k text) → synced_in (drop k text) ≤ place
 
+-- if none does before a byte, and the one at that byte doesn't either, none does before the next byte
 pub one_more_place : (place at : ℕ) (text : List ℕ) → NoneSoFar place text at → (IsSyncPoint (drop at text) → synced_in (drop at text) ≤ place) → NoneSoFar place text (at + 1)
 one_more_place place at text none here k before point =
     elim (cases_lt k at) [
@@ -90,6 +96,7 @@ one_more_place place at text none here k before point =
           subst (λ (n : ℕ). IsSyncPoint (drop n text) → synced_in (drop n text) ≤ place) same here point)
     ]
 
+-- if none does before the end of the text, the text has no sync point that names a byte after the place
 pub none_at_all : (place at : ℕ) (text : List ℕ) → NoneSoFar place text at → length text ≤ at → HasSyncPointBeyond place text → ⊥
 none_at_all place at text none past has =
     elim (cases_lt has.0 at) [
@@ -99,7 +106,7 @@ none_at_all place at text none past has =
           omega (arith, gone, has.1.complete))
     ]
 
--- a sync point, by its parts
+-- a text whose length, mark and checksum are those of a sync point of its number starts with a sync point
 pub sync_point_is : (text : List ℕ) (number : ℕ) → 36 ≤ length text → body_len_in text ≡ 24 → take 8 (drop 12 text) ≡ sync_mark → number ≡ number_in text
     → checksum_in text ≡ checksum number (take 24 (drop 12 text)) → IsSyncPoint text
 sync_point_is text number complete len mark number_is sum =

@@ -12,11 +12,12 @@ use Rattle.hls_journal_log.specs.Reading.{Stops, Reads}
 use Rattle.hls_journal_log.specs.Laws.{PrefixesAreRead, PrefixesAreNotCorrupt}
 use Rattle.hls_journal_log.proofs.Headers.{StartsWith, starts_with, length_record, first_read, first_within, others_within}
 
--- the beginning of a record, of which the end is missing
+-- a text is the first bytes of a record, but not all of them
 record IsBeginning (body text : List ℕ) : Type 0 where
   short : length text < 12 + length body
   len : 12 ≤ length text → body_len_in text ≡ length body
 
+-- the first bytes of a record, fewer than it has, are such a text
 beginning : (number : ℕ) (body behind : List ℕ) (len : ℕ) → length body ≤ body_limit → len < 12 + length body → IsBeginning body (take len (record_bytes number body ++ behind))
 beginning number body behind len small short =
     let at = starts_with number body behind small in
@@ -26,6 +27,7 @@ beginning number body behind len small short =
       len = λ long. little_from-take 0 4 len (record_bytes number body ++ behind) (omega (arith, long, all)) ∙ at.len;
     }
 
+-- reading such a text doesn't end as a corrupt log does
 not_corrupt : (number : ℕ) (body text : List ℕ) (ending : Ending) → length body ≤ body_limit → IsBeginning body text → Stops number text ending → ending ≢ Corrupt
 not_corrupt number body text Complete small at stops same = cc
 not_corrupt number body text Torn small at stops same = cc
@@ -33,7 +35,7 @@ not_corrupt number body text Corrupt small at stops same =
     let len : body_len_in text ≡ length body = at.len stops.0 in
     elim stops.1 [ inl long ↦ omega (arith, long, len, small) | inr complete ↦ omega (arith, complete.0, len, at.short) ]
 
--- no record is read from it
+-- no record is read from the first bytes of one
 none_read : (number : ℕ) (body text : List ℕ) (found : List (List ℕ)) (ending : Ending) → length body ≤ body_limit → IsBeginning body text
     → Reads number text found ending → (found ≡ []) × (ending ≢ Corrupt)
 none_read number body text [] ending small at reads =
@@ -46,12 +48,13 @@ none_read number body text (f ∷ more) ending small at reads =
     let len : body_len_in text ≡ length body = at.len (omega (arith, there.long)) in
     absurd (omega (arith, len, there.len, there.long, at.short))
 
+-- reading an empty text doesn't end as a corrupt log does
 empty_not_corrupt : (number : ℕ) (text : List ℕ) (ending : Ending) → length text ≡ 0 → Stops number text ending → ending ≢ Corrupt
 empty_not_corrupt number text Complete none stops same = cc
 empty_not_corrupt number text Torn none stops same = cc
 empty_not_corrupt number text Corrupt none stops same = omega (arith, none, stops.0)
 
--- nor from an empty text
+-- no record is read from an empty text
 empty_read : (number : ℕ) (found : List (List ℕ)) (ending : Ending) → Reads number [] found ending → (found ≡ []) × (ending ≢ Corrupt)
 empty_read number [] ending reads =
     let plain : number + 0 ≡ number = omega arith in
@@ -62,18 +65,20 @@ empty_read number (f ∷ more) ending reads =
     let none : 0 ≡ length (record_bytes number f ++ (log_bytes (suc number) more ++ reads.rest)) = ap length all in
     absurd (omega (arith, none, long, length_record number f))
 
--- what is read of the first bytes
+-- what is read of the first bytes of a log: the first records, each that is complete there, and no corrupt end
 pub record ReadsPrefix (number : ℕ) (bodies : List (List ℕ)) (len : ℕ) (found : List (List ℕ)) (ending : Ending) : Type 0 where
   pub front : found ≡ take (length found) bodies
   pub all : (count : ℕ) → count ≤ length bodies → length (log_bytes number (take count bodies)) ≤ len → count ≤ length found
   pub not_corrupt : ending ≢ Corrupt
 
+-- if the first record isn't complete in the first bytes of a log, none is
 none_complete : (number : ℕ) (body : List ℕ) (bodies : List (List ℕ)) (len : ℕ) → len < 12 + length body → (count : ℕ)
     → length (log_bytes number (take count (body ∷ bodies))) ≤ len → count ≤ 0
 none_complete number body bodies len short zero fits = omega arith
 none_complete number body bodies len short (suc count) fits =
     absurd (omega (arith, short, fits, length-append (record_bytes number body) (log_bytes (suc number) (take count bodies)), length_record number body))
 
+-- if the first record is complete there, and at most `most` of those after it are, at most `most` + 1 are
 one_more_complete : (number : ℕ) (body : List ℕ) (bodies : List (List ℕ)) (len most : ℕ) → 12 + length body ≤ len
     → ((count : ℕ) → count ≤ length bodies → length (log_bytes (suc number) (take count bodies)) ≤ len - (12 + length body) → count ≤ most)
     → (count : ℕ) → count ≤ suc (length bodies) → length (log_bytes number (take count (body ∷ bodies))) ≤ len → count ≤ suc most
@@ -83,6 +88,7 @@ one_more_complete number body bodies len most long rest (suc count) within fits 
     let behind : count ≤ most = rest count (omega (arith, within)) (omega (arith, fits, lens, length_record number body, long)) in
     omega (arith, behind)
 
+-- of the first bytes of a log the first records are read, each that is complete there, and not to a corrupt end
 pub prefix_read : (number : ℕ) (bodies : List (List ℕ)) (len : ℕ) (found : List (List ℕ)) (ending : Ending) → AreWithinLimit bodies
     → Reads number (take len (log_bytes number bodies)) found ending → ReadsPrefix number bodies len found ending
 prefix_read number [] len found ending small reads =
@@ -118,9 +124,11 @@ prefix_read number (body ∷ bodies) len found ending small reads =
           })
     ]
 
+-- of the first bytes of a log a prefix of the records is read, with each one that is complete there
 pub prefixes-are-read : PrefixesAreRead
 prefixes-are-read number bodies len found ending small reads =
     let prefix = prefix_read number bodies len found ending small reads in (prefix.front, prefix.all)
 
+-- the first bytes of a log don't end as a corrupt log does
 pub prefixes-are-not-corrupt : PrefixesAreNotCorrupt
 prefixes-are-not-corrupt number bodies len found ending small reads = (prefix_read number bodies len found ending small reads).not_corrupt

@@ -12,9 +12,11 @@ use Rattle.hls_journal_log.specs.Records.{body_limit, checksum, record_bytes, lo
 use Rattle.hls_journal_log.specs.Reading.{IsRecordAndRest}
 use Rattle.hls_journal_log.proofs.Headers.{record_parts, length_record}
 
+-- each number of a text is below 256
 abbrev pub AreBytes : List ℕ → Type 0
 AreBytes text = (i : ℕ) → get_or text i 0 < 256
 
+-- if each number of a text is a byte, so is each of its first n
 bytes_taken : (text : List ℕ) (n : ℕ) → AreBytes text → AreBytes (take n text)
 bytes_taken text n are i =
     elim (cases_lt i n) [
@@ -22,7 +24,7 @@ bytes_taken text n are i =
       | inr past ↦ (let none : length (take n text) ≤ i = omega (arith, length-take n text, past) in rw (get_or_past (take n text) i 0 none) (omega arith))
     ]
 
--- the bytes of the length
+-- the length that a text's header says, written in four bytes, is the text's first four
 len_bytes : (text : List ℕ) → AreBytes text → 4 ≤ length text → little_bytes 4 (body_len_in text) ≡ take 4 text
 len_bytes text are long =
     let four : length (take 4 text) ≡ 4 = length-take-le 4 text long in
@@ -30,7 +32,7 @@ len_bytes text are long =
     let read : body_len_in text ≡ from_le_bytes w32 (take 4 text) = same ∙ (omega arith) in
     le_bytes_4 (take 4 text) (body_len_in text) four (bytes_taken text 4 are) read
 
--- a text is the record that it starts with, and what follows
+-- a text that starts with a record is this record, and what follows it
 pub rebuilt : (number : ℕ) (text : List ℕ) → AreBytes text → IsRecord number text → record_bytes number (body_in text) ++ drop (12 + body_len_in text) text ≡ text
 rebuilt number text are is =
     let long : 4 ≤ length text = omega (arith, is.complete) in
@@ -48,7 +50,7 @@ rebuilt number text are is =
     ∙ ap (λ xs. take 4 text ++ xs) back
     ∙ take-append-drop 4 text
 
--- a log, extended by one record
+-- the bytes of records and one more are theirs and the bytes of that record, whose number is the next one
 pub log_snoc : (number : ℕ) (bodies : List (List ℕ)) (body : List ℕ) → log_bytes number (bodies ++ body ∷ []) ≡ log_bytes number bodies ++ record_bytes (number + length bodies) body
 log_snoc number [] body =
     let plain : number ≡ number + 0 = omega arith in
@@ -58,18 +60,21 @@ log_snoc number (b ∷ bodies) body =
     ap (λ xs. record_bytes number b ++ xs) (log_snoc (suc number) bodies body ∙ ap (λ k. log_bytes (suc number) bodies ++ record_bytes k body) count)
     ∙ sym (append_assoc (record_bytes number b) (log_bytes (suc number) bodies) (record_bytes (number + suc (length bodies)) body))
 
+-- a body is within the limit of its length
 WithinLimit : List ℕ → Type 0
 WithinLimit body = length body ≤ body_limit
 
+-- no bodies are within the limit
 pub none_within : AreWithinLimit []
 unfolding WithinLimit
 none_within = All-nil WithinLimit
 
+-- bodies within the limit are so with one more that is
 pub within_snoc : (bodies : List (List ℕ)) (body : List ℕ) → AreWithinLimit bodies → length body ≤ body_limit → AreWithinLimit (bodies ++ body ∷ [])
 unfolding WithinLimit
 within_snoc bodies body small fits = All-push WithinLimit bodies body small fits
 
--- the records that were read so far, up to `at`
+-- the records that were read so far are the text up to byte `at`, and the next one has this number
 pub record HasRead (first number at : ℕ) (text : List ℕ) (bodies : List (List ℕ)) : Type 0 where
   pub is : text ≡ log_bytes first bodies ++ drop at text
   pub len : at ≡ length (log_bytes first bodies)
@@ -78,9 +83,11 @@ pub record HasRead (first number at : ℕ) (text : List ℕ) (bodies : List (Lis
   pub number_is : number ≡ first + length bodies
   pub few : length bodies ≤ at
 
+-- at first nothing is read, and the place is the start of the text
 pub nothing_read : (first : ℕ) (text : List ℕ) → HasRead first first 0 text []
 nothing_read first text = record { is = refl; len = refl; within = omega arith; small = none_within; number_is = omega arith; few = omega arith }
 
+-- if a record follows what was read so far, it is read, too
 one_more_read : (first number at : ℕ) (text : List ℕ) (bodies : List (List ℕ)) → IsRecordAndRest number (drop at text) → IsRecord number (drop at text) → HasRead first number at text bodies
     → HasRead first (number + 1) (at + (12 + body_len_in (drop at text))) text (bodies ++ body_in (drop at text) ∷ [])
 one_more_read first number at text bodies whole is so_far =
@@ -102,6 +109,7 @@ one_more_read first number at text bodies whole is so_far =
       few = omega (arith, so_far.few, length-append bodies (body_in (drop at text) ∷ []));
     }
 
+-- a record that is read, by its length and its body, continues what was read so far
 pub read_step : (first number at len : ℕ) (text : List ℕ) (bodies items : List (List ℕ)) (body : List ℕ) → IsRecordAndRest number (drop at text) → len ≡ body_len_in (drop at text) → IsRecord number (drop at text)
     → items ≡ bodies ++ body ∷ [] → body ≡ take len (drop (at + 12) text) → HasRead first number at text bodies → HasRead first (number + 1) (at + 12 + len) text items
 read_step first number at len text bodies items body whole len_is is pushed body_is so_far =
@@ -112,7 +120,7 @@ read_step first number at len text bodies items body whole len_is is pushed body
     (subst (λ (bs : List (List ℕ)). HasRead first (number + 1) (at + (12 + body_len_in (drop at text))) text bs) items_are
     (one_more_read first number at text bodies whole is so_far))
 
--- one more record is made
+-- if the first records are made, and the next one after them, one record more is made
 pub record_made : (first : ℕ) (bodies : List (List ℕ)) (index number : ℕ) (body old new : List ℕ) → index < length bodies → body ≡ get_or bodies index body
     → (old ≡ log_bytes first (take index bodies)) × (number ≡ first + index) → new ≡ old ++ record_bytes number body
     → (new ≡ log_bytes first (take (index + 1) bodies)) × (number + 1 ≡ first + (index + 1))
@@ -127,7 +135,7 @@ record_made first bodies index number body old new within at so_far made =
       omega (arith, so_far.1),
     )
 
--- the same, where the text is read from a place on
+-- a record that is read from the rest of the text continues what was read so far
 pub read_step_at : (first number at len : ℕ) (seen text : List ℕ) (bodies items : List (List ℕ)) (body : List ℕ) → IsRecordAndRest number (take (length seen - at) (drop at seen)) → seen ≡ text
     → len ≡ body_len_in (take (length seen - at) (drop at seen)) → IsRecord number (take (length seen - at) (drop at seen)) → items ≡ bodies ++ body ∷ []
     → body ≡ slice_range text (at + 12) (at + 12 + len) → HasRead first number at text bodies → HasRead first (number + 1) (at + 12 + len) text items

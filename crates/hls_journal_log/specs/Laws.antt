@@ -20,7 +20,7 @@ PrefixesAreRead =
     → Reads number (take len (log_bytes number bodies)) found ending
     → (found ≡ take (length found) bodies) × ((count : ℕ) → count ≤ length bodies → length (log_bytes number (take count bodies)) ≤ len → count ≤ length found)
 
--- and they don't end as a corrupt log does
+-- the first bytes of a log, however many, don't end as a corrupt log does
 abbrev pub PrefixesAreNotCorrupt : Type 0
 PrefixesAreNotCorrupt =
     (number : ℕ) (bodies : List (List ℕ)) (len : ℕ) (found : List (List ℕ)) (ending : Ending) → AreWithinLimit bodies

@@ -24,21 +24,21 @@ pub record IsDamaged (text : List ℕ) (at : ℕ) : Type 0 where
   pub place : at ≡ length (log_bytes 0 bodies)
   pub beyond : HasSyncPointBeyond at (drop at text)
 
--- a text is read, or it is damaged, unless memory runs out
+-- the result of reading a text: its records, or the place where it is damaged, or an allocation failed
 abbrev pub Judges : List ℕ → Result LogContent LogFault → Type 0
 Judges text (Ok content) = IsRead text content
 Judges text (Err Memory) = ⊤
 Judges text (Err (Disk error)) = ⊥
 Judges text (Err (Damaged at)) = IsDamaged text at
 
--- the same of the text on a disk, which may fail; so many bytes follow the last record
+-- the result of reading the text on a disk, which may fail; the last `dropped` bytes of the text are no records
 abbrev pub JudgesDisk : List ℕ → Result ReadLog LogFault → Type 0
 JudgesDisk text (Ok read) = IsRead text read.content × (read.dropped + read.content.len ≡ length text)
 JudgesDisk text (Err Memory) = ⊤
 JudgesDisk text (Err (Disk error)) = ⊤
 JudgesDisk text (Err (Damaged at)) = IsDamaged text at
 
--- memory runs out, or the disk fails
+-- if there is no text, an allocation or the disk failed
 abbrev pub MayFail : Result (List ℕ) LogFault → Type 0
 MayFail (Ok text) = ⊤
 MayFail (Err Memory) = ⊤

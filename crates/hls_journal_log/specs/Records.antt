@@ -28,10 +28,11 @@ log_bytes number (body ∷ bodies) = record_bytes number body ++ log_bytes (suc 
 abbrev pub AreWithinLimit : List (List ℕ) → Type 0
 AreWithinLimit bodies = All (λ body. length body ≤ body_limit) bodies
 
--- what the header at the start of a text says
+-- the length of the body, in the header at the start of a text
 abbrev pub body_len_in : List ℕ → ℕ
 body_len_in text = little_number 4 text
 
+-- the checksum in that header
 abbrev pub checksum_in : List ℕ → List ℕ
 checksum_in text = take 8 (drop 4 text)
 

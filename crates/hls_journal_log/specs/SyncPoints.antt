@@ -11,13 +11,15 @@ sync_mark = 7 ∷ 104 ∷ 108 ∷ 115 ∷ 115 ∷ 121 ∷ 110 ∷ 99 ∷ []
 abbrev pub sync_point_body : ℕ → ℕ → List ℕ
 sync_point_body number synced = sync_mark ++ little_bytes 8 number ++ little_bytes 8 synced
 
+-- the length of a sync point's body in bytes
 abbrev pub sync_point_len : ℕ
 sync_point_len = 24
 
--- the number and the synced length of the sync point at the start of a text
+-- the number of the sync point at the start of a text
 abbrev pub number_in : List ℕ → ℕ
 number_in text = little_number 8 (drop 20 text)
 
+-- how many bytes of the log were synced, by the sync point at the start of a text
 abbrev pub synced_in : List ℕ → ℕ
 synced_in text = little_number 8 (drop 28 text)
 

@@ -10,7 +10,7 @@ use Rattle.hls_journal_store.specs.declared.batch.MediaWrite.{MediaWrite}
 use Rattle.hls_journal_store.specs.declared.batch.Position.{Position}
 use Rattle.hls_journal_store.specs.Batches.{rendition_in, number_in, counted, IsLoggedRecord, AreLogged, HasOneMore, IsBatch}
 
--- one more entry
+-- if entries have these records and media, and the next entry has its own, all of them together have both
 pub logged_snoc : (s : State) (counts : List ℕ) (es : List Entry) (bodies : List (List ℕ)) (writes : List MediaWrite) (after : List ℕ) (e : Entry) (body : List ℕ) (own : List MediaWrite)
     → AreLogged s counts es bodies writes after → IsLoggedRecord (recording_of s (rendition_in e.event)) (number_in after e.event) e body own
     → AreLogged s counts (es ++ e ∷ []) (bodies ++ body ∷ []) (writes ++ own) (counted after e.event)
@@ -35,12 +35,12 @@ logged_snoc s counts (x ∷ es) bodies writes after e body own so_far one = (
   logged_snoc s (counted counts x.event) es so_far.1 so_far.3 after e body own so_far.7 one,
 )
 
--- a batch before its first entry
+-- a batch without records and media, at the position from which it counts, is the batch of no entry
 pub batch_begins : (s : State) (from : Position) (batch : Batch) → batch.bodies.items ≡ [] → batch.writes.items ≡ [] → batch.position.version ≡ from.version
     → batch.position.counts.items ≡ from.counts.items → IsBatch s from batch
 batch_begins s from batch bodies writes version counts = record { count = 0; version = omega (arith, version); logged = (bodies, writes, counts) }
 
--- what is logged, by equal lists
+-- what records and media entries have doesn't change if the lists are replaced by equal ones
 same_logged : (s : State) (counts : List ℕ) (es fs : List Entry) (bodies bodies' : List (List ℕ)) (writes writes' : List MediaWrite) (after after' : List ℕ) → fs ≡ es → bodies' ≡ bodies → writes' ≡ writes → after' ≡ after
     → AreLogged s counts es bodies writes after → AreLogged s counts fs bodies' writes' after'
 same_logged s counts es fs bodies bodies' writes writes' after after' same_es same_bodies same_writes same_after logged =
@@ -49,6 +49,7 @@ same_logged s counts es fs bodies bodies' writes writes' after after' same_es sa
     (subst (λ (ws : List MediaWrite). AreLogged s counts es bodies ws after') (sym same_writes)
     (subst (λ (cs : List ℕ). AreLogged s counts es bodies writes cs) (sym same_after) logged)))
 
+-- a batch with the record and the media of the next entry is the batch of one entry more
 pub batch_more : (s : State) (from : Position) (old new : Batch) → IsBatch s from old → HasOneMore s old new → IsBatch s from new
 batch_more s from old new so_far one =
     let within : old.position.version < length s.log = slice_get_within s.log old.position.version one.entry one.at in

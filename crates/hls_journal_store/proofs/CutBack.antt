@@ -5,6 +5,7 @@ use Rattle.sqlite_disk.specs.Disk.{Cut, Follows}
 use Rattle.hls_journal_log.specs.Records.{log_bytes}
 use Rattle.hls_journal_log.specs.Crashes.{Survive}
 
+-- a cut at or after the end of a text leaves the text, whatever a crash leaves of it
 cut_keeps : (text behind c : List ℕ) (n : ℕ) → length text ≤ n → Cut n (text ++ behind) c → c ≡ text ++ drop (length text) c
 cut_keeps text behind c n low cut =
     let all = length-append text behind in
@@ -18,6 +19,7 @@ cut_keeps text behind c n low cut =
     ∙ get_or_append_left text behind 0 i inside) in
     sym (take-append-drop (length text) c) ∙ ap (λ (xs : List ℕ). xs ++ drop (length text) c) front
 
+-- a cut at or after the end of records leaves them in whatever a crash leaves
 pub survive_cut : (kept : List (List ℕ)) (n : ℕ) (old new : List ℕ → Type 0) → length (log_bytes 0 kept) ≤ n → Follows (Cut n) old new → Survive kept old → Survive kept new
 survive_cut kept n old new low follows survive c left =
     let before = follows c left in

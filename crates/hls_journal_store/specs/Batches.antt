@@ -36,7 +36,7 @@ event_in rec n (Finished r) = Some (Finish r)
 event_in rec n (Slid count) = Some (Slide count)
 event_in rec n (Trimmed r floor) = Some (Trim r floor)
 
--- the offset of its bytes in the rendition's resource
+-- the offset of an accepted unit with the number n in its rendition's resource; 0 for any other event
 abbrev pub offset_in : Option RecordingData → ℕ → LoggedEvent → ℕ
 offset_in (Some d) n (Accepted r f) = offset_at d n
 offset_in (Some d) n logged = 0
@@ -57,10 +57,11 @@ pub record IsLoggedRecord (rec : Option RecordingData) (n : ℕ) (entry : Entry)
   pub record_of : IsBodyOf entry.by (offset_in rec n entry.event) event body
   pub media : writes ≡ writes_of (offset_in rec n entry.event) event
 
--- the number of the next unit of a logged event's rendition, and the counts after the event
+-- the number of the next unit of a logged event's rendition, by the counts of units so far
 abbrev pub number_in : List ℕ → LoggedEvent → ℕ
 number_in counts logged = get_or counts (rendition_in logged) 0
 
+-- the counts of units in each rendition after a logged event
 abbrev pub counted : List ℕ → LoggedEvent → List ℕ
 counted counts (Begun r init len) = counts
 counted counts (Accepted r f) = slice_set counts r (suc (get_or counts r 0))

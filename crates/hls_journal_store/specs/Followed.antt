@@ -29,19 +29,19 @@ pub record Leads (s : State) (from to : Position) (records : List (List ℕ)) : 
   pub version : to.version ≡ from.version + count
   pub followed : AreFollowed s from.counts.items (take count (drop from.version s.log)) records to.counts.items
 
--- a log has these records more, behind what it had, if nothing followed its end
+-- a log has these records more at its end; if nothing followed its end, its bytes are the earlier ones and theirs
 pub record Adds (records : List (List ℕ)) (next next' end end' : ℕ) (seen seen' : List ℕ) : Type 0 where
   pub number : next' ≡ next + length records
   pub place : end' ≡ end + length (log_bytes next records)
   pub bytes : length seen ≡ end → seen' ≡ seen ++ log_bytes next records
 
--- it has more records of no event, and after them these ones
+-- a log has records of no event more, and after them these ones
 pub record AddsAfterAsides (records : List (List ℕ)) (next next' end end' : ℕ) (seen seen' : List ℕ) : Type 0 where
   pub asides : List (List ℕ)
   pub aside : AreAsides asides
   pub adds : Adds (asides ++ records) next next' end end' seen seen'
 
--- it has the records that lead from one position to another
+-- a log has the records more that lead from one position to another
 pub record Grows (s : State) (from to : Position) (next next' end end' : ℕ) (seen seen' : List ℕ) : Type 0 where
   pub records : List (List ℕ)
   pub leads : Leads s from to records

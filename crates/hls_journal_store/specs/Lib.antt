@@ -1,3 +1,5 @@
+-- The definitions of a journal's files: calls on a file, what is known of a log, batches of entries, media to write, what a follower writes,
+-- what a start knows, and logs in older formats.
 pub mod Calls
 pub mod LogFiles
 pub mod Batches

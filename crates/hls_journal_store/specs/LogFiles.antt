@@ -12,6 +12,6 @@ module _ {S : Type 0} {g : calls.Ghosts FileCalls} where
   abbrev pub is_usable_file : {start : Ghosts S} → Modelled FileCalls S g start → Bool
   is_usable_file {start} f = (replay (start_of start f) f.calls.record.calls).is_usable
 
-  -- it was synced, and nothing has happened since
+  -- the file was synced, and no call was made on it since
   abbrev pub IsSettled : {start : Ghosts S} → Modelled FileCalls S g start → Type 0
   IsSettled f = f.calls.record.calls ≡ settled 0 ∷ []

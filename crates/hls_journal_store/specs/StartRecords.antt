@@ -9,7 +9,7 @@ use Rattle.hls_journal_store.specs.declared.sync_mode.SyncMode.TheVariants as mo
 abbrev pub is_same_boot : List ℕ → List ℕ → Bool
 is_same_boot a b = bytes_eq a b && not (bytes_eq a (replicate 16 0))
 
--- everything is synced before it is reported
+-- whether the process syncs before it reports anything
 abbrev pub is_each : SyncMode → Bool
 is_each modes.Each = true
 is_each _ = false

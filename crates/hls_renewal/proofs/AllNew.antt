@@ -7,6 +7,7 @@ use Rattle.hls_core_laws.specs.Moves.{entry_of, state_with_entry}
 use Rattle.hls_core_laws.specs.Runs.{state_by_outcome, next_state, replayed_state}
 use Rattle.hls_renewal.specs.Renewals.{AreNew}
 
+-- if each event is new in the state that it meets, the log grows by one entry for each event
 pub new_entries : (s : State) (es : List (ℕ × Event)) → AreNew s es → length (replayed_state s es).log ≡ length s.log + length es
 new_entries s [] new = omega arith
 new_entries s (e ∷ es) new =

@@ -23,14 +23,16 @@ use Rattle.hls_renewal.proofs.Recorded.{of_lane}
 
 -- ---- bytes by rendition
 
--- the bytes before a cut in one rendition
+-- the bytes of units before a place in one rendition, with those of earlier logs
 abbrev pub bytes_at : Place → BaseData → ℕ → Lane → ℕ
 bytes_at p base r l = bytes_before_base base r + bytes_before p r l
 
+-- there is one count of bytes for each lane
 bytes_to_long : (p : Place) (base : BaseData) (k : ℕ) (lanes : List Lane) → length (bytes_to p base k lanes) ≡ length lanes
 bytes_to_long p base k [] = refl
 bytes_to_long p base k (l ∷ lanes) = ap suc (bytes_to_long p base (suc k) lanes)
 
+-- of the counts from rendition k on, number r is that of rendition k + r
 bytes_to_at : (p : Place) (base : BaseData) (k r : ℕ) (lanes : List Lane) (l : Lane) → slice_get lanes r ≡ Some l → slice_get (bytes_to p base k lanes) r ≡ Some (bytes_at p base (k + r) l)
 bytes_to_at p base k r [] l at = absurd (cc)
 bytes_to_at p base k zero (m ∷ lanes) l at =
@@ -41,28 +43,32 @@ bytes_to_at p base k (suc r) (m ∷ lanes) l at =
     let next : suc k + r ≡ k + suc r = omega arith in
     bytes_to_at p base (suc k) r lanes l at ∙ ap (λ n. Some (bytes_at p base n l)) next
 
--- the bytes of a state's renditions, the first of which are counted
+-- for each rendition of a state the bytes of units before a place, with those of earlier logs
 abbrev pub all_bytes : State → Place → List ℕ
 all_bytes s p = bytes_to p s.config.base 0 (channel s).lanes
 
+-- the first n of 16 counts are the bytes of the first n renditions, and the others are 0
 pub record AreCounted (s : State) (p : Place) (n : ℕ) (bytes : List ℕ) : Type 0 where
   pub is : bytes ≡ take n (all_bytes s p) ++ replicate (16 - n) 0
   pub long : length bytes ≡ 16
 
+-- if all 16 counts are 0, the bytes of no rendition are counted yet
 pub none_counted : (s : State) (p : Place) (bytes : List ℕ) → bytes ≡ replicate 16 0 → AreCounted s p 0 bytes
 none_counted s p bytes is = record { is = is; long = ap length is ∙ length-replicate {A = ℕ} 16 0 }
 
 zero_more : (r : ℕ) → 0 + r ≡ r
 zero_more r = omega arith
 
+-- a list of n numbers, filled up with zeros to 16, has 16 elements
 counted_long : (n k : ℕ) (xs : List ℕ) → length xs ≡ k → k ≡ n → n ≤ 16 → length (xs ++ replicate (16 - n) 0) ≡ 16
 counted_long n k xs long same few = omega (arith, length-append xs (replicate (16 - n) 0), length-replicate {A = ℕ} (16 - n) 0, long, same, few)
 
+-- a rendition without a recording has no init section
 not_begun : (i : Option InitData) (l : Lane) (h : HeldBytes) → recorded_from i l h ≡ None → i ≡ None
 not_begun None l h none = refl
 not_begun (Some init) l h none = absurd (cc)
 
--- the bytes before a place, by what is recorded
+-- the bytes of units before a place in a rendition are the same by its recording, which may be missing, and by its lane
 counted_in : (s : State) (p : Place) (r : ℕ) (l : Lane) (o : Option RecordingData) → IsState s → slice_get (channel s).lanes r ≡ Some l → recording_of s r ≡ o
     → units_before_in (bytes_before_base s.config.base r) o (spot_in p.spots r).fragment ≡ bytes_at p s.config.base r l
 counted_in s p r l (Some rec) state at found =
@@ -82,6 +88,7 @@ counted_in s p r l None state at found =
     let bytes : total_bytes (take u l.facts) ≡ 0 = ap (λ fs. total_bytes (take u fs)) facts ∙ ap total_bytes (take-nil u) in
     omega (arith, bytes)
 
+-- after the bytes of rendition r are set, those of the first r + 1 renditions are counted
 pub one_counted : (s : State) (p : Place) (r bytes : ℕ) (old new : List ℕ) → IsState s → r < length (channel s).lanes → length (channel s).lanes ≤ 16 → AreCounted s p r old
     → bytes ≡ bytes_before_cut s p r → new ≡ set old r bytes → AreCounted s p (r + 1) new
 one_counted s p r bytes old new state within few so_far is put =
@@ -100,6 +107,7 @@ one_counted s p r bytes old new state within few so_far is put =
     ∙ ap (λ xs. xs ++ replicate (16 - (r + 1)) 0) (sym more) in
     record { is = now; long = ap length now ∙ counted_long (r + 1) (length (take (r + 1) (all_bytes s p))) (take (r + 1) (all_bytes s p)) refl (omega (arith, length-take (r + 1) (all_bytes s p), bytes_to_long p s.config.base 0 (channel s).lanes, within)) (omega (arith, within, few)) }
 
+-- if all renditions are counted, the counts are the bytes of the cut's base
 pub all_counted : (s : State) (n : ℕ) (p : Place) (k : ℕ) (bytes : List ℕ) → k ≡ length (channel s).lanes → AreCounted s p k bytes → bytes ≡ (base_of_cut s n p).bytes
 all_counted s n p k bytes all so_far =
     so_far.is

@@ -22,6 +22,7 @@ use Rattle.hls_places_laws.proofs.Callers.{closing_place, filter_map-all, live-m
 
 -- ---- the open place and the best one are among the places so far
 
+-- the place where the open segment begins and the best place have a property P, if there are such places
 record Starts (P : Place → Type 0) (t : LineProgress) : Type 0 where
   start : (o : SegmentStart) → t.line.segment_start ≡ Some o → P o.place
   best : (b : Place) → t.best ≡ Some b → P b
@@ -35,6 +36,7 @@ no_best P b at = absurd (cc)
 one_best : (P : Place → Type 0) (q b : Place) → P q → Some q ≡ Some b → P b
 one_best P q b here at = subst P (some_is q b at) here
 
+-- a line's progress has P at the start of the open segment and at the best place, if those that it is made of have P
 starts_with : (P : Place → Type 0) (segments : List LiveSegment) (o : SegmentStart) (best : Option Place) → P o.place → ((b : Place) → best ≡ Some b → P b)
     → Starts P (progress_with segments o best)
 starts_with P segments o best here reached = record {
@@ -42,10 +44,12 @@ starts_with P segments o best here reached = record {
   best = reached;
 }
 
+-- if both of two results have P at their places, so has the one that a condition chooses
 starts_if : (P : Place → Type 0) (b : Bool) (t u : LineProgress) → Starts P t → Starts P u → Starts P (cond b t u)
 starts_if P true t u left right = left
 starts_if P false t u left right = right
 
+-- if the open segment's start, the best place, the next place and the result `stopped` have P, so has the progress after the next place
 tried_starts : (P : Place → Type 0) (goal : LineGoal) (removed : ℕ) (segments : List LiveSegment) (o : SegmentStart) (best : Option Place) (q : Place)
     (stopped : LineProgress) → P o.place → ((b : Place) → best ≡ Some b → P b) → P q → Starts P stopped → Starts P (progress_to goal removed segments o best q stopped)
 unfolding progress_to
@@ -58,6 +62,7 @@ tried_starts P goal removed segments o best q stopped from reached here last =
     last)
     (starts_with P segments o best from reached)
 
+-- if the best place and the next place have P, so has the progress when the next place is out of reach
 restarted_starts : (P : Place → Type 0) (goal : LineGoal) (removed : ℕ) (segments : List LiveSegment) (o : SegmentStart) (best : Option Place) (q : Place)
     → ((b : Place) → best ≡ Some b → P b) → P q → Starts P (progress_restarted_at goal removed segments o best q)
 unfolding progress_restarted_at
@@ -66,6 +71,7 @@ restarted_starts P goal removed segments o (Some b) q reached here =
     tried_starts P goal removed (closed_with removed segments o b) (start_at b) None q _ (reached b refl) (no_best P) here
     (starts_with P (closed_with removed segments o b) (restart_at q) None here (no_best P))
 
+-- if the open segment's start, the best place and the next place have P, so has the progress after the next place
 added_starts : (P : Place → Type 0) (goal : LineGoal) (removed : ℕ) (segments : List LiveSegment) (start : Option SegmentStart) (best : Option Place) (q : Place)
     → ((o : SegmentStart) → start ≡ Some o → P o.place) → ((b : Place) → best ≡ Some b → P b) → P q → Starts P (progress_from goal removed segments start best q)
 unfolding progress_from
@@ -73,6 +79,7 @@ added_starts P goal removed segments None best q opens reached here = starts_wit
 added_starts P goal removed segments (Some o) best q opens reached here =
     tried_starts P goal removed segments o best q _ (opens o refl) reached here (restarted_starts P goal removed segments o best q reached here)
 
+-- if all places that are added have P, the open segment begins at a place with P, and the best place has P
 all_starts : (P : Place → Type 0) (goal : LineGoal) (removed : ℕ) (t : LineProgress) (places : List Place) → All P places → Starts P t
     → Starts P (advanced_through goal removed t places)
 all_starts P goal removed t [] all starts = subst (λ (x : LineProgress). Starts P x) (sym (progress-none goal removed t)) starts
@@ -83,6 +90,7 @@ all_starts P goal removed t (q ∷ rest) all starts =
 
 -- ---- the closing place ends the line, wherever it was open
 
+-- the open segment begins at the closing place: the line has ended
 abbrev Closes : LineProgress → Type 0
 Closes t = is_closing t.line.segment_start ≡ true
 
@@ -90,10 +98,12 @@ or_right : (a b : Bool) → b ≡ true → (a || b) ≡ true
 or_right true b is = refl
 or_right false b is = is
 
+-- a segment to the closing place is always long enough
 closing_is_long : (goal : LineGoal) (o q : Place) → q.closing ≡ true → is_long_enough goal o q ≡ true
 unfolding is_long_enough
 closing_is_long goal o q closing = or_right _ q.closing closing
 
+-- the closing place ends the line if it is later than the open segment's start, and if the line also ends when it is out of reach
 tried_closes : (goal : LineGoal) (removed : ℕ) (segments : List LiveSegment) (o : SegmentStart) (best : Option Place) (q : Place) (stopped : LineProgress)
     → q.closing ≡ true → is_later_place o.place q ≡ true → Closes stopped → Closes (progress_to goal removed segments o best q stopped)
 tried_closes goal removed segments o best q stopped closing later last = elim (cases_Bool (is_allowed goal o.place q)) [
@@ -103,6 +113,7 @@ tried_closes goal removed segments o best q stopped closing later last = elim (c
   | inr far ↦ ap (λ (t : LineProgress). is_closing t.line.segment_start) (tried-far goal removed segments o best q stopped later far) ∙ last
 ]
 
+-- when the closing place is out of reach, the line closes the segment to the best place or restarts; it ends either way
 restarted_closes : (goal : LineGoal) (removed : ℕ) (segments : List LiveSegment) (o : SegmentStart) (best : Option Place) (q : Place)
     → q.closing ≡ true → ((b : Place) → best ≡ Some b → is_later_place b q ≡ true) → Closes (progress_restarted_at goal removed segments o best q)
 unfolding progress_restarted_at
@@ -110,6 +121,7 @@ restarted_closes goal removed segments o None q closing before = closing
 restarted_closes goal removed segments o (Some b) q closing before =
     tried_closes goal removed (closed_with removed segments o b) (start_at b) None q _ closing (before b refl) closing
 
+-- adding the closing place ends the line if the open segment's start and the best place are before it
 added_closes : (goal : LineGoal) (removed : ℕ) (segments : List LiveSegment) (start : Option SegmentStart) (best : Option Place) (q : Place)
     → q.closing ≡ true → ((o : SegmentStart) → start ≡ Some o → is_later_place o.place q ≡ true) → ((b : Place) → best ≡ Some b → is_later_place b q ≡ true)
     → Closes (progress_from goal removed segments start best q)
@@ -125,6 +137,7 @@ pub record AreAtUnits (sources : List Source) (found : List Spot) : Type 0 where
   pub count : length found ≡ length sources
   pub each : (r : ℕ) → r < length sources → (spot_in found r).fragment < length (source_at sources r).facts
 
+-- the spot that a search by unit numbers finds is at one of the rendition's units
 at_unit : (fs : List Facts) (high k : ℕ) (spot : Spot) → spot_by fs high k ≡ Some spot → spot.fragment < length fs
 at_unit fs high k spot is = elim (cases_Bool (nat_lt k (length fs) && nat_le (fact_at fs k).start_us high)) [
   | inl there ↦
@@ -137,17 +150,20 @@ at_unit fs high k spot is = elim (cases_Bool (nat_lt k (length fs) && nat_le (fa
       absurd (cc)
 ]
 
+-- if spots of all renditions are found, so are the first one's spot and the spots of the others
 split_spots : (o : Option Spot) (rest : Option (List Spot)) (found : List Spot) → with_spot o rest ≡ Some found
     → (spot : Spot) × (others : List Spot) × (o ≡ Some spot) × (rest ≡ Some others) × (spot ∷ others ≡ found)
 split_spots None rest found is = absurd (cc)
 split_spots (Some spot) None found is = absurd (cc)
 split_spots (Some spot) (Some others) found is = (spot, others, refl, refl, some_is _ _ is)
 
+-- if a rendition's spot is at one of its units and the other renditions' spots are at units of theirs, so are all of them
 more_at_units : (s : Source) (sources : List Source) (spot : Spot) (others : List Spot) → spot.fragment < length s.facts → AreAtUnits sources others
     → (r : ℕ) → r < length (s ∷ sources) → (spot_in (spot ∷ others) r).fragment < length (source_at (s ∷ sources) r).facts
 more_at_units s sources spot others here more zero h = here
 more_at_units s sources spot others here more (suc r) h = more.each r (omega (arith, h))
 
+-- the spots that are found in all renditions for a time are at units that are there
 are_at_units : (sources : List Source) (t : ℕ) (found : List Spot) → spots sources t ≡ Some found → AreAtUnits sources found
 are_at_units [] t found is =
     let same : [] ≡ found = some_is _ _ is in
@@ -159,12 +175,14 @@ are_at_units (s ∷ sources) t found is =
     subst (λ (l : List Spot). AreAtUnits (s ∷ sources) l) parts.4
     (record { count = ap suc more.count; each = more_at_units s sources parts.0 parts.1 here more })
 
+-- a place that is made of spots has exactly these spots
 of_spots : (o : Option (List Spot)) (p : Place) → option_map place_of o ≡ Some p → o ≡ Some p.spots
 of_spots None p is = absurd (cc)
 of_spots (Some found) p is =
     let same : place_of found ≡ p = some_is _ _ is in
     ap (λ (x : Place). Some x.spots) same
 
+-- a common place that is found from a unit has its spots at units that are there
 pub common_at_units : (sources : List Source) (f : Facts) (p : Place) → common_at sources f ≡ Some p → AreAtUnits sources p.spots
 common_at_units sources f p is = elim (cases_Bool f.sync) [
   | inl sync ↦ are_at_units sources f.start_us p.spots (of_spots (spots sources f.start_us) p (sym (cond-true f.sync _ _ sync) ∙ is))
@@ -173,11 +191,13 @@ common_at_units sources f p is = elim (cases_Bool f.sync) [
       absurd (cc)
 ]
 
+-- at the closing place the unit number of a rendition is the number of its units
 end_fragment : (sources : List Source) (r : ℕ) → r < length sources → (spot_in (map source_end_spot sources) r).fragment ≡ length (source_at sources r).facts
 end_fragment [] r h = absurd (omega (arith, h))
 end_fragment (s ∷ sources) zero h = refl
 end_fragment (s ∷ sources) (suc r) h = end_fragment sources r (omega (arith, h))
 
+-- the closing place is later than a place whose spots are at units that are there
 closing_is_later : (sources : List Source) (p : Place) → AreAtUnits sources p.spots → is_later_place p (closing_place sources) ≡ true
 closing_is_later sources p at =
     past-from_each p (closing_place sources) (length-map sources source_end_spot ∙ sym at.count)
@@ -185,6 +205,7 @@ closing_is_later sources p at =
 
 -- ---- so the line has ended
 
+-- a line over renditions that have all ended has ended, however many segments were removed
 pub line_ends : (goal : LineGoal) (sources : List Source) (removed : ℕ) → list_all has_ended sources ≡ true
     → has_line_ended (live_of goal (places_of sources) removed) ≡ true
 line_ends goal sources removed all =

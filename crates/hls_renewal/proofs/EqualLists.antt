@@ -39,10 +39,12 @@ use Rattle.hls_renewal.proofs.RenewedSources.{ended_alike, places_from_cut, rene
 
 -- ---- a renewed channel is in a state
 
+-- events that fit the states that they meet lead from a state to a state
 pub all_states : (s : State) (es : List (ℕ × Event)) → IsState s → AreFitting s es → IsState (replayed_state s es)
 all_states s [] state fits = state
 all_states s (e ∷ es) state fits = all_states (next_state s e.0 e.1) es (next_is_state s e.0 e.1 state fits.0) fits.1
 
+-- a renewed channel is a state
 pub renewed_state : (a b : State) (renews : Renews a b) → IsState a → IsState b
 renewed_state a b renews state =
     let cut = renews.cut in
@@ -61,6 +63,7 @@ renewed_state a b renews state =
 -- ---- both channels' lines are as far
 
 module _ (from_place : PlacesFromAPlaceAgree) (in_row : PlacesNeverGoBack) (from_cut : LineFromCutAgrees) where
+  -- the live line of a renewed channel has as many segments as the old one
   same_count : (a b : State) (renews : Renews a b) → IsState a → length (segments_of (line b)) ≡ length (segments_of (line a))
   same_count a b renews state =
       let state_b = renewed_state a b renews state in
@@ -80,6 +83,7 @@ module _ (from_place : PlacesFromAPlaceAgree) (in_row : PlacesNeverGoBack) (from
         removed_within b state_b,
       )
 
+  -- in each rendition the two live lists begin and end at the same segment, counted from the cut, and both have ended or neither has
   as_far : (a b : State) (renews : Renews a b) → IsState a → (r : ℕ) (l m : Lane)
       → AreAsFar (renews.cut).segments (live_list_over a.config.epoch r l (line a)) (live_list_over b.config.epoch r m (line b))
   as_far a b renews state r l m = record {
@@ -91,6 +95,7 @@ module _ (from_place : PlacesFromAPlaceAgree) (in_row : PlacesNeverGoBack) (from
 
 -- ---- so are their playlists
 
+-- a rendition's live list is there once the line has a closed segment
 listed : (s : State) (r : ℕ) (l : Lane) → slice_get (channel s).lanes r ≡ Some l → 0 < length (segments_of (line s))
     → live_list_of s r ≡ Some (live_list_over s.config.epoch r l (line s))
 listed s r l at some =
@@ -98,6 +103,7 @@ listed s r l at some =
     ap (λ (o : Option Lane). live_list_in s.config.epoch r o (line s)) at
     ∙ ap (λ (b : Bool). if b then Some (live_list_over s.config.epoch r l (line s)) else None) has
 
+-- a rendition that the channel doesn't have has neither a playlist by ranges nor one by paths
 unlisted : (s : State) (r : ℕ) → slice_get (channel s).lanes r ≡ None → (based_list_of s r ≡ None) × (path_list_of s r ≡ None)
 unlisted s r none =
     let live : live_list_of s r ≡ None = ap (λ (o : Option Lane). live_list_in s.config.epoch r o (line s)) none in (
@@ -107,6 +113,7 @@ unlisted s r none =
 
 module _ (from_place : PlacesFromAPlaceAgree) (in_row : PlacesNeverGoBack) (from_cut : LineFromCutAgrees) (equal : TakenOverListsAreEqual)
     (takes_over : BaseOfCutTakesOver) where
+  -- in rendition r both channels have the same playlists by ranges and by paths, whether or not they have this rendition
   by_lane : (a b : State) (renews : Renews a b) (r : ℕ) (x y : Option Lane) → IsState a → 0 < length (segments_of (line a))
       → slice_get (channel a).lanes r ≡ x → slice_get (channel b).lanes r ≡ y → (based_list_of b r ≡ based_list_of a r) × (path_list_of b r ≡ path_list_of a r)
   by_lane a b renews r None None state some at there =
@@ -127,9 +134,11 @@ module _ (from_place : PlacesFromAPlaceAgree) (in_row : PlacesNeverGoBack) (from
       equal a b cut.segments cut.place r l (live_list_over a.config.epoch r l (line a)) (live_list_over b.config.epoch r m (line b)) state (renewed_state a b renews state)
       takes at (listed a r l at some) (listed b r m there also) (as_far from_place in_row from_cut a b renews state r l m)
 
+  -- if the old channel lists a segment, the renewed one has the same playlists, by ranges and by paths
   pub equal_lists : RenewedListsAreEqual
   equal_lists a b renews state r some = by_lane a b renews r (slice_get (channel a).lanes r) (slice_get (channel b).lanes r) state some refl refl
 
+  -- each playlist of the renewed channel is valid as a later one of those that were sent before the renewal
   pub later_lists : BasedListsFollow → PathListsFollow → RenewedListsContinue
   later_lists follow paths_follow before a b r earlier state follows renews some =
       let state_a = state_of before a follows state in

@@ -22,12 +22,15 @@ use Rattle.hls_renewal.proofs.PlansSince.{end-stays, from, mapped, spot}
 
 -- ---- gaps before a later place
 
+-- two numbers are equal exactly if they are equal after subtracting a number that exceeds neither
 same-apart : (a b c : ℕ) → c ≤ a → c ≤ b → (a - c == b - c) ≡ (a == b)
 same-apart a b c low high = grind (arith)
 
+-- a spot after the cut has a gap before it exactly if it has one when counted from the cut
 gap-since : (c s : Spot) → IsSpotFrom c s → c.fragment < s.fragment → is_gap_at (spot_since c s) ≡ is_gap_at s
 gap-since c s from later = ap not (same-apart s.run_in s.run_out c.run_out (from.ins later) from.outs)
 
+-- spots that are all after the cut have a gap in some rendition exactly if they have one when counted from the cut
 break-since : (cut spots : List Spot) → AreSpotsFrom cut spots → ((r : ℕ) → r < length cut → (spot_in cut r).fragment < (spot_in spots r).fragment)
     → list_any is_gap_at (spots_since cut spots) ≡ list_any is_gap_at spots
 break-since [] [] from later = refl
@@ -38,6 +41,7 @@ break-since (c ∷ cut) (spot ∷ spots) from later =
 
 -- ---- bytes between two units
 
+-- the bytes between two units are the same when the units before the first one are dropped and the numbers counted from there
 bytes-since : (fs : List Facts) (n first last : ℕ) → n ≤ first → bytes_between (drop n fs) (first - n) (last - n) ≡ bytes_between fs first last
 bytes-since fs n first last up =
     let count : last - n - (first - n) ≡ last - first = omega (arith, up) in
@@ -50,31 +54,39 @@ bytes-since fs n first last up =
 module _ (cut : List Spot) (t : Table) (some : 0 < t.renditions) (counts : t.renditions ≡ length cut)
     (after : (p : ℕ) → p < length t.places → AreSpotsFrom cut (place_at t.places p)) (r : ℕ) (within : r < t.renditions) (x y : RecordingData)
     (head : length y.head ≡ length x.head) (facts : y.facts ≡ drop (spot_in cut r).fragment x.facts) (epoch : Option ℤ) where
+  -- the table, counted from the cut
   abbrev since : Table
   since = table_since cut t
 
+  -- the layout of the resource of the rendition that is recorded from the start
   abbrev old : ResourceLayout
   old = job_layout epoch x r (job_uri r) (first_fragment t r)
 
+  -- the layout of the resource of the rendition that is recorded from the cut on
   abbrev new : ResourceLayout
   new = job_layout epoch y r (job_uri r) (first_fragment since r)
 
+  -- the number of the cut's unit in this rendition
   abbrev n : ℕ
   n = (spot_in cut r).fragment
 
+  -- the spot of place p of the table, in this rendition
   abbrev at : ℕ → Spot
   at p = spot_in (place_at t.places p) r
 
+  -- the spot of place p of the table that is counted from the cut, in this rendition
   abbrev now : ℕ → Spot
   now p = spot_in (place_at since.places p) r
 
+  -- each spot of the counted table is that of the table, counted from the cut
   is-since : (p : ℕ) → p < length t.places → now p ≡ spot_since (spot_in cut r) (at p)
   is-since p h = spot cut t some counts after p r h within
 
+  -- no spot of the table precedes the cut
   is-from : (p : ℕ) → p < length t.places → IsSpotFrom (spot_in cut r) (at p)
   is-from p h = from cut t some counts after p r h within
 
-  -- the bytes between two places
+  -- the bytes between two places of the table are the same in both recordings
   between : (p q : ℕ) → p < length t.places → q < length t.places
       → bytes_between y.facts (now p).fragment (now q).fragment ≡ bytes_between x.facts (at p).fragment (at q).fragment
   between p q there to =
@@ -83,6 +95,7 @@ module _ (cut : List Spot) (t : Table) (some : 0 < t.renditions) (counts : t.ren
       ∙ ap (λ (s : Spot). bytes_between (drop n x.facts) ((at p).fragment - n) s.fragment) (is-since q to)
       ∙ bytes-since x.facts n (at p).fragment (at q).fragment (is-from p there).fragment
 
+  -- the media segment of an allowed step is the same in both layouts
   segment : (mark : Bool) (p q : ℕ) → Allowed t p q
       → segment_between new mark (place_at since.places p) (place_at since.places q) ≡ segment_between old mark (place_at t.places p) (place_at t.places q)
   segment mark p q is =
@@ -106,6 +119,7 @@ module _ (cut : List Spot) (t : Table) (some : 0 < t.renditions) (counts : t.ren
         uri = job_uri r;
       }
 
+  -- an allowed step ends at a gap in the one table exactly if it does in the other
   break : (p q : ℕ) → Allowed t p q → is_break (place_at since.places q) ≡ is_break (place_at t.places q)
   break p q is =
       let there = is.from in
@@ -117,6 +131,7 @@ module _ (cut : List Spot) (t : Table) (some : 0 < t.renditions) (counts : t.ren
       let later = (is.step i inside).later in
       omega (arith, before, later))
 
+  -- allowed steps from place p on make the same segments
   segments : (mark : Bool) (p : ℕ) (rest : List ℕ) → StepsAreAllowed t p rest
       → plan_segments_from new since.places p mark rest ≡ plan_segments_from old t.places p mark rest
   segments mark p [] are = refl
@@ -126,13 +141,14 @@ module _ (cut : List Spot) (t : Table) (some : 0 < t.renditions) (counts : t.ren
       ∙ ap (λ (l : List MediaSegment). segment_between old mark (place_at t.places p) (place_at t.places q) ∷ l)
       (segments (is_break (place_at t.places q)) q rest are.1)
 
+  -- each plan has the same playlist
   pub same-list : (plan : List ℕ) → IsPlan t plan → job_list epoch y r since plan ≡ job_list epoch x r t plan
   same-list [] is = absurd is
   same-list (p ∷ rest) is =
       ap (λ (k : ℕ). vod_list t.goal.target (job_uri r) k (plan_segments_from new since.places p false rest)) head
       ∙ ap (vod_list t.goal.target (job_uri r) (length x.head)) (segments false p rest is.2)
 
-  -- the same bytes, if they are kept
+  -- the units of the table have the same bytes in both recordings, if no unit from the cut on is trimmed
   pub same-resource : 0 < length t.places → x.floor ≤ n → y.floor ≡ 0 → y.head ≡ x.head → y.units ≡ drop (n - x.floor) x.units
       → resource_of y.head y.floor y.units (first_fragment since r) (end_fragment since r) ≡ resource_of x.head x.floor x.units (first_fragment t r) (end_fragment t r)
   same-resource there low floor same units =

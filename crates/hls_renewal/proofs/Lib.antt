@@ -1,4 +1,5 @@
--- The lemmas of this crate.
+-- The lemmas on renewals: a channel begins a new log at a cut of its live line. The cut is found; what the new log rebuilds of lanes, bytes,
+-- sources, places, plans and playlists is what the old channel had from the cut on; each of its events is new.
 pub mod Recorded
 pub mod RebuiltLines
 pub mod Bits

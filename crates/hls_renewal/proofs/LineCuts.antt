@@ -22,6 +22,7 @@ use Rattle.hls_renewal.specs.Cuts.{cut_at, may_begin_at, cut_at_front, front_cut
 use Rattle.hls_renewal.proofs.RebuiltLines.{places_few}
 use Rattle.hls_renewal.proofs.CutSearch.{segments, removed_segments}
 
+-- if a log may begin at a place, the place isn't the closing one, and it is kept
 may_parts : (closing kept : Bool) → (not closing && kept) ≡ true → (closing ≡ false) × (kept ≡ true)
 may_parts true kept may = absurd (cc)
 may_parts false kept may = (refl, may)
@@ -30,18 +31,21 @@ cases_bool : (b : Bool) → (b ≡ true) ⊎ (b ≡ false)
 cases_bool true = inl refl
 cases_bool false = inr refl
 
+-- where no log may begin, there is no cut
 no_cut : (b : Bool) (x c : LineCut) → b ≡ false → (if b then Some x else None) ≡ Some c → ⊥
 no_cut true x c not found = cc
 no_cut false x c not found = cc
 
+-- the first segment's mark gives the same total whether it is counted with the segments or added to the marks before them
 one_mark : (b : Bool) (marks first more total : ℕ) → first ≡ 0 + cond b 1 0 → total ≡ first + more → marks + total ≡ marks + (if b then 1 else 0) + more
 one_mark true marks first more total is sum = omega (arith, is, sum)
 one_mark false marks first more total is sum = omega (arith, is, sum)
 
+-- the first k of the first n elements are the first k elements, for k at most n
 take_again : {A : Type 0} (k n : ℕ) (xs : List A) → k ≤ n → take k (take n xs) ≡ take k xs
 take_again k n xs few = take-take k n xs few
 
--- a cut before a closed segment
+-- if a log may begin where closed segment k begins, that is a cut of the line
 segment_cut : (s : State) (k : ℕ) (segment : LiveSegment) → slice_get (segments s) k ≡ Some segment → may_begin_at (floors s) segment.from ≡ true
     → IsLineCut s (cut_at k (marks_in k (segments s)) segment.mark segment.from)
 segment_cut s k segment at may =
@@ -60,7 +64,7 @@ segment_cut s k segment at may =
       kept = parts.1;
     }
 
--- the cut at the front
+-- the cut at the front of the line, if a log may begin there, is a cut of the line
 at_front : (s : State) (c : LineCut) (o : Option Place) → IsState s → front_of (line s) ≡ o → cut_at_front (floors s) (line s) o ≡ Some c → IsLineCut s c
 at_front s c None state at found = absurd (cc)
 at_front s c (Some p) state at found = elim (cases_bool (may_begin_at (floors s) p)) [
@@ -78,7 +82,7 @@ at_front s c (Some p) state at found = elim (cases_bool (may_begin_at (floors s)
   | inr not ↦ absurd (no_cut (may_begin_at (floors s) p) (cut_at (line s).removed (line s).breaks (is_first_marked (drop (line s).removed (segments s))) p) c not found)
 ]
 
--- the first one among segments that follow n others
+-- what a search through segments after n others finds is a cut of the line, if each cut before one of them is one, and the other cut too
 in_segments : (s : State) (c : LineCut) (n marks : ℕ) (rest : List LiveSegment) (other : Option LineCut)
     → ((k : ℕ) (segment : LiveSegment) → slice_get rest k ≡ Some segment → may_begin_at (floors s) segment.from ≡ true → IsLineCut s (cut_at (n + k) (marks + marks_in k rest) segment.mark segment.from))
     → (other ≡ Some c → IsLineCut s c) → cut_in (floors s) n marks rest other ≡ Some c → IsLineCut s c
@@ -109,7 +113,7 @@ in_segments s c n marks (segment ∷ rest) other here last found = elim (cases_b
       (sym (ap (λ (b : Bool). if b then Some (cut_at n marks segment.mark segment.from) else cut_in (floors s) (suc n) more rest other) passed) ∙ found)
 ]
 
--- a segment that was removed
+-- removed segment k is closed segment k, with as many marks before it
 removed_at : (s : State) (k : ℕ) (segment : LiveSegment) → IsState s → slice_get (removed_segments s) k ≡ Some segment
     → (slice_get (segments s) k ≡ Some segment) × (marks_in k (removed_segments s) ≡ marks_in k (segments s))
 removed_at s k segment state at =
@@ -124,6 +128,7 @@ removed_at s k segment state at =
 from_zero : (n : ℕ) → n ≡ 0 + n
 from_zero n = omega arith
 
+-- the first cut at which a log may begin is a cut of the state's line
 pub is_line_cut : (s : State) (c : LineCut) → IsState s → first_cut s ≡ Some c → IsLineCut s c
 is_line_cut s c state found =
     in_segments s c 0 0 (removed_segments s) (front_cut s)
@@ -135,7 +140,7 @@ is_line_cut s c state found =
     (segment_cut s k segment there.0 may))
     (λ at. at_front s c (front_of (line s)) state refl at) found
 
--- its numbers are small
+-- at most 4194305 segments and marks precede a cut
 pub small_cut : (s : State) (c : LineCut) → IsState s → IsLineCut s c → (c.segments ≤ 4194305) × (c.marks ≤ 4194305)
 small_cut s c state is =
     let few = segments-few (line_goal_of s.config) (places s) in

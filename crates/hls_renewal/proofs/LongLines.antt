@@ -34,6 +34,7 @@ use Rattle.hls_renewal.proofs.RenewedSources.{line_has_ended}
 
 -- ---- a line with a closed segment is open somewhere
 
+-- a line with an open segment has one after the next lookahead, whatever it finds, if it has one after the steps that follow
 opened_by : (goal : LineGoal) (most : ℕ) → ((earlier : Bool) (o : SegmentStart) (rest : List Place) → (x : SegmentStart) × ((line_within goal most earlier o rest).segment_start ≡ Some x))
     → (earlier : Bool) (o : SegmentStart) (ahead : Lookahead) → (x : SegmentStart) × ((line_from_lookahead (line_within goal most) earlier o ahead).segment_start ≡ Some x)
 opened_by goal most again earlier o Nothing = (o, refl)
@@ -41,23 +42,28 @@ opened_by goal most again earlier o (Enough to rest) = again true (start_at to) 
 opened_by goal most again earlier o (TooFar (Some last) at rest) = again true (start_at last) (at ∷ rest)
 opened_by goal most again earlier o (TooFar None at rest) = again earlier (restart_at at) rest
 
+-- a line that starts with an open segment still has one after any number of steps
 opened_within : (goal : LineGoal) (most : ℕ) (earlier : Bool) (o : SegmentStart) (rest : List Place) → (x : SegmentStart) × ((line_within goal most earlier o rest).segment_start ≡ Some x)
 unfolding line_within
 opened_within goal zero earlier o rest = (o, refl)
 opened_within goal (suc most) earlier o rest = opened_by goal most (opened_within goal most) earlier o (ahead_of goal o.place rest)
 
+-- a line with a closed segment has an open one
 pub opened : (goal : LineGoal) (places : List Place) → 0 < length (line_of goal places).segments → (x : SegmentStart) × ((line_of goal places).segment_start ≡ Some x)
 opened goal [] some = absurd (omega (arith, some))
 opened goal (o ∷ rest) some = opened_within goal (suc (length rest)) false (start_at o) rest
 
 -- ---- what a slide leaves
 
+-- in each rendition the segments' lengths add up to at least three target durations
 pub record IsLongIn (goal : LineGoal) (renditions : ℕ) (segments : List LiveSegment) : Type 0 where
   pub each : (r : ℕ) → r < renditions → three_targets goal ≤ sum_by (length_in r) segments
 
+-- if segments were removed and the line hasn't ended, the segments that are left are at least three target durations long in each rendition
 abbrev pub StaysLong : State → Type 0
 StaysLong s = 0 < (channel s).removed → has_line_ended (line s) ≡ false → IsLongIn (line_goal_of s.config) (length (sources s)) (segments_of (line s))
 
+-- a test that is true for all numbers below a bound is true for each of them
 each_at : (test : ℕ → Bool) (bound r : ℕ) → r < bound → each_below bound test ≡ true → test r ≡ true
 each_at test zero r h is = absurd (omega (arith, h))
 each_at test (suc bound) r h is =
@@ -67,7 +73,7 @@ each_at test (suc bound) r h is =
       | inr other ↦ each_at test bound r (omega (arith, h, other)) parts.0
     ]
 
--- a slide that is allowed
+-- a slide by n segments is allowed: n is above 0, the line has n segments, and enough are left
 record MaySlide (live : Live) (n : ℕ) : Type 0 where
   some : 0 < n
   few : n ≤ length (segments_of live)
@@ -77,22 +83,27 @@ some_count : (n : ℕ) → (n == 0) ≡ false → 0 < n
 some_count zero is = absurd (cc)
 some_count (suc n) is = omega arith
 
+-- the result of the last test of a slide: too short, unless enough is left
 abbrev long_or : Bool → Result (Unit {0}) LineFault
 long_or b = (if b then Ok tt else Err TooShort)
 
+-- if the last test of a slide passes, enough is left
 long_of : (b : Bool) → long_or b ≡ Ok tt → b ≡ true
 long_of true is = refl
 long_of false is = absurd (cc)
 
+-- the result of a slide's tests: too many segments, else too short, else allowed
 abbrev slide_by : Bool → Bool → Result (Unit {0}) LineFault
 slide_by many b = (if many then Err TooMany else long_or b)
 
+-- if the tests of a slide pass, it is allowed in the sense of `MaySlide`
 allowed_by : (live : Live) (n : ℕ) (many : Bool) → (n == 0 || nat_lt (length (segments_of live)) n) ≡ many → slide_by many (stays_long live n) ≡ Ok tt → MaySlide live n
 allowed_by live n true e is = absurd (cc)
 allowed_by live n false e is =
     let parts = or_parts (n == 0) (nat_lt (length (segments_of live)) n) e in
     record { some = some_count n parts.0; few = ltb-false (length (segments_of live)) n parts.1; stays = long_of (stays_long live n) is }
 
+-- a slide of a line that passes the tests is allowed in the sense of `MaySlide`
 allowed : (live : Live) (n : ℕ) → may_slide live n ≡ Ok tt → MaySlide live n
 allowed live n may = allowed_by live n (n == 0 || nat_lt (length (segments_of live)) n) refl may
 
@@ -100,11 +111,13 @@ or_right : (a b : Bool) → (a || b) ≡ true → a ≡ false → b ≡ true
 or_right true b is none = absurd (cc)
 or_right false b is none = is
 
+-- if the line has a closed segment, its open segment begins in as many renditions as the channel has
 renditions_in : (s : State) → IsState s → 0 < length (whole s).line.segments → renditions_of (whole s).line.segment_start ≡ length (sources s)
 renditions_in s state some =
     let start = opened (line_goal_of s.config) (places s) some in
     ap renditions_of start.1 ∙ ((closed-reached s state).segment_start start.0 start.1).count
 
+-- after a slide that is new, three target durations are left in each rendition, unless the line has ended
 after_slide : (s : State) (by count : ℕ) → IsState s → outcome_of s (Slide count) ≡ New → StaysLong (state_with_entry s by (Slide count))
 after_slide s by count state new some unended =
     let may = allowed (line s) count ((slides (may_slide (line s) count) (length s.log) new).may) in
@@ -124,17 +137,21 @@ after_slide s by count state new some unended =
 
 -- ---- and what other events leave
 
+-- segments that are long enough stay so when more are added
 longer : (goal : LineGoal) (renditions : ℕ) (segments more : List LiveSegment) → IsLongIn goal renditions segments → IsLongIn goal renditions (segments ++ more)
 longer goal renditions segments more long = record { each = λ r h. omega (arith, long.each r h, sum_by-append (length_in r) segments more) }
 
+-- a state that follows has the same number of renditions
 same_renditions : (a b : State) → Follows a b → length (sources b) ≡ length (sources a)
 same_renditions a b (inl same) = ap (λ (s : State). length (sources s)) (sym same)
 same_renditions a b (inr ab) = (sources_grow a b ab.later ab.continues).same
 
+-- once all renditions have ended, they are unchanged in a state that follows
 ended_sources : (a b : State) → Follows a b → list_all has_ended (sources a) ≡ true → sources b ≡ sources a
 ended_sources a b (inl same) over = ap sources (sym same)
 ended_sources a b (inr ab) over = over-stays (sources a) (sources b) (sources_grow a b ab.later ab.continues) over
 
+-- a state that follows and has removed the same segments still has three target durations in each rendition, unless its line has ended
 after_other : (a b : State) → IsState a → IsState b → Follows a b → (channel b).removed ≡ (channel a).removed → StaysLong a → StaysLong b
 after_other a b state state_b follows removed stays some unended = elim (cases_Bool (list_all has_ended (sources a))) [
   | inl over ↦
@@ -158,6 +175,7 @@ after_other a b state state_b follows removed stays some unended = elim (cases_B
       (subst (λ (c : ConfigData). IsLongIn (line_goal_of c) (length (sources a)) (segments_of (line a) ++ more.0)) (sym config) long))
 ]
 
+-- an event that removes no segment: any event but a slide
 abbrev removes_none : Event → Type 0
 removes_none (Begin r init bytes) = Unit {0}
 removes_none (Accept r f bytes) = Unit {0}
@@ -165,6 +183,7 @@ removes_none (Finish r) = Unit {0}
 removes_none (Slide count) = ⊥
 removes_none (Trim r floor) = Unit {0}
 
+-- an event that isn't a slide leaves the number of removed segments
 same_removed : (s : State) (by : ℕ) (e : Event) → removes_none e → (channel (state_with_entry s by e)).removed ≡ (channel s).removed
 same_removed s by (Begin r init bytes) none = ap (λ (ch : Channel). ch.removed) (channel_advanced s by (Begin r init bytes))
 same_removed s by (Accept r f bytes) none = ap (λ (ch : Channel). ch.removed) (channel_advanced s by (Accept r f bytes))
@@ -172,10 +191,12 @@ same_removed s by (Finish r) none = ap (λ (ch : Channel). ch.removed) (channel_
 same_removed s by (Slide count) none = absurd none
 same_removed s by (Trim r floor) none = ap (λ (ch : Channel). ch.removed) (channel_advanced s by (Trim r floor))
 
+-- after an event that is new and isn't a slide, the line is as long as `StaysLong` says, if it was before
 by_other : (s : State) (by : ℕ) (e : Event) → removes_none e → IsState s → IsFitting s e → outcome_of s e ≡ New → StaysLong s → StaysLong (state_with_entry s by e)
 by_other s by e none state fits new stays =
     after_other s (state_with_entry s by e) state (advanced_state s by e state fits new) (advanced_follows s by e state fits new) (same_removed s by e none) stays
 
+-- after any event that is new, the line is as long as `StaysLong` says, if it was before
 after_new : (s : State) (by : ℕ) (event : Event) → IsState s → IsFitting s event → outcome_of s event ≡ New → StaysLong s → StaysLong (state_with_entry s by event)
 after_new s by (Slide count) state fits new stays = after_slide s by count state new
 after_new s by (Begin r init bytes) state fits new stays = by_other s by (Begin r init bytes) tt state fits new stays
@@ -183,13 +204,15 @@ after_new s by (Accept r f bytes) state fits new stays = by_other s by (Accept r
 after_new s by (Finish r) state fits new stays = by_other s by (Finish r) tt state fits new stays
 after_new s by (Trim r floor) state fits new stays = by_other s by (Trim r floor) tt state fits new stays
 
+-- in the opening state nothing was removed, so nothing is to show
 at_first : (config : ConfigData) → StaysLong (first_state config)
 unfolding channel_from
 at_first config some unended = absurd (omega (arith, some))
 
+-- `StaysLong` doesn't depend on the bytes that are kept
 same_bytes : (s : State) (bytes : List HeldBytes) → StaysLong (record { config = s.config; log = s.log; bytes = bytes }) → StaysLong s
 same_bytes s bytes stays = stays
 
--- in every state
+-- once segments were removed, each state's line has three target durations in each rendition until it ends
 pub stays_long_always : (s : State) → IsState s → StaysLong s
 stays_long_always = every_state StaysLong same_bytes at_first after_new

@@ -35,23 +35,27 @@ use Rattle.hls_renewal.proofs.SmallLanes.{small_lane}
 
 -- ---- events one after the other
 
+-- if each event of one list is new, and each of a second list from the state after them, each event of both lists is new
 pub new_append : (s : State) (xs ys : List (ℕ × Event)) → AreNew s xs → AreNew (replayed_state s xs) ys → AreNew s (xs ++ ys)
 new_append s [] ys new more = more
 new_append s (e ∷ xs) ys new more = (new.0, new_append (next_state s e.0 e.1) xs ys new.1 more)
 
--- after a new event
+-- after a new event, rendition r is as the event leaves it
 next_at : (s : State) (e : ℕ × Event) (r : ℕ) (l : Lane) → outcome_of s e.1 ≡ New → slice_get (channel s).lanes r ≡ Some l
     → slice_get (channel (next_state s e.0 e.1)).lanes r ≡ Some (lane_after r e.1 l)
 next_at s e r l new at = after_all s (e ∷ []) r l (new, tt) at
 
+-- a new event adds one entry to the log
 next_entries : (s : State) (e : ℕ × Event) → outcome_of s e.1 ≡ New → length (next_state s e.0 e.1).log ≡ length s.log + 1
 next_entries s e new = new_entries s (e ∷ []) (new, tt)
 
 -- ---- one event
 
+-- an event that passes all other tests is new if the log isn't full
 pub has_room : (entries : ℕ) → entries < 4194304 → new_or_full entries ≡ New
 has_room entries room = ap (λ (b : Bool). if b then Refused LedgerFull else New) (lt-leb log_limit entries room)
 
+-- an init section is new in a rendition that hasn't begun
 begin_new : (s : State) (r : ℕ) (l : Lane) (init : InitData) (bytes : List ℕ) → slice_get (channel s).lanes r ≡ Some l → l.init ≡ None → length s.log < 4194304
     → outcome_of s (Begin r init bytes) ≡ New
 begin_new s r l init bytes at first room =
@@ -59,6 +63,7 @@ begin_new s r l init bytes at first room =
     ∙ ap (λ (i : Option InitData). begin_with_init i (held_bytes s r).head bytes (length s.log)) first
     ∙ has_room (length s.log) room
 
+-- the end of a rendition that has begun and isn't finished is new
 finish_new : (s : State) (r : ℕ) (l : Lane) (init : InitData) → slice_get (channel s).lanes r ≡ Some l → l.init ≡ Some init → l.finished ≡ false → length s.log < 4194304
     → outcome_of s (Finish r) ≡ New
 finish_new s r l init at begun unended room =
@@ -67,10 +72,12 @@ finish_new s r l init at begun unended room =
     ∙ ap (λ (b : Bool). finish_with_init (Some init) b (length s.log)) unended
     ∙ has_room (length s.log) room
 
+-- a unit that starts at or after the last unit's end is new in a rendition that isn't finished and has room for its bytes
 later_new : (l : Lane) (f : Facts) (entries : ℕ) → last_end l.facts ≤ f.start → l.finished ≡ false → entries < 4194304 → lane_len l + f.len ≤ 2 ^ 40 → accept_later l f entries ≡ New
 later_new l f entries later unended room small =
     rw (le-ltb f.start (last_end l.facts) later, unended, lt-leb 4194304 entries room, le-ltb (2 ^ 40) (lane_len l + f.len) small) refl
 
+-- a unit that is later than all units of its rendition is new, if the rendition has begun, isn't finished, and has room
 accept_new : (s : State) (r : ℕ) (l : Lane) (init : InitData) (f : Facts) (bytes : List ℕ) → slice_get (channel s).lanes r ≡ Some l → l.init ≡ Some init
     → AreFactsOfUnits init l.facts → UnitsAreInOrder l.facts → last_end l.facts ≤ f.start → l.finished ≡ false → length s.log < 4194304 → lane_len l + f.len ≤ 2 ^ 40
     → outcome_of s (Accept r f bytes) ≡ New
@@ -82,22 +89,24 @@ accept_new s r l init f bytes at begun were in_order later unended room small =
 
 -- ---- the units of a rendition, from some unit on
 
--- units in order, with room for all
+-- the facts are of units that fit an init section, in time order, with at most 2^40 bytes together with the section
 pub record AreInTime (init : InitData) (size : ℕ) (facts : List Facts) : Type 0 where
   pub were : AreFactsOfUnits init facts
   pub in_order : UnitsAreInOrder facts
   pub small : size + total_bytes facts ≤ 2 ^ 40
 
+-- an element of a list is at the same number when another list is appended
 front_at : {A : Type 0} (xs ys : List A) (k : ℕ) (x : A) → slice_get xs k ≡ Some x → slice_get (xs ++ ys) k ≡ Some x
 front_at [] ys k x at = absurd (cc)
 front_at (z ∷ xs) ys zero x at = at
 front_at (z ∷ xs) ys (suc k) x at = front_at xs ys k x at
 
+-- in a list that is followed by `y`, the element after its last one is `y`
 end_at : {A : Type 0} (xs : List A) (y : A) (ys : List A) → slice_get (xs ++ y ∷ ys) (length xs) ≡ Some y
 end_at [] y ys = refl
 end_at (x ∷ xs) y ys = end_at xs y ys
 
--- of the units of a list, the first ones are in order, and the next one is later
+-- if units are in time order, those before a unit end at or before its start
 ends_before : (xs : List Facts) (f : Facts) (rest : List Facts) → UnitsAreInOrder (xs ++ f ∷ rest) → last_end xs ≤ f.start
 ends_before [] f rest in_order = omega arith
 ends_before (x ∷ xs) f rest in_order =
@@ -110,6 +119,7 @@ ends_before (x ∷ xs) f rest in_order =
     let ends : last_end (x ∷ xs) ≡ (last.0).start + (last.0).duration = ap (λ j. end_tick (slice_get (x ∷ xs) j)) number ∙ ap end_tick last.1 in
     omega (arith, ends, in_order k last.0 f here there)
 
+-- if units are in time order with room for all, so are the first ones
 first_ones : (init : InitData) (size : ℕ) (xs ys : List Facts) → AreInTime init size (xs ++ ys) → AreInTime init size xs
 first_ones init size xs ys in_time = record {
   were = λ k f at. in_time.were k f (front_at xs ys k f at);
@@ -117,10 +127,11 @@ first_ones init size xs ys in_time = record {
   small = omega (arith, in_time.small, sum_by-append len_of xs ys);
 }
 
+-- being in time order with room for all carries over to an equal list
 in_units : (init : InitData) (size : ℕ) (xs ys : List Facts) → AreInTime init size xs → xs ≡ ys → AreInTime init size ys
 in_units init size xs ys in_time same = subst (λ (fs : List Facts). AreInTime init size fs) same in_time
 
--- all of them are there
+-- if all units from number n on are kept, there is an event for each of them
 units_all : (r : ℕ) (rec : RecordingData) (n count : ℕ) → AreKeptFrom rec n → n + count ≡ length rec.facts → count ≤ length (units_from r rec n count)
 units_all r rec n zero kept all = omega arith
 units_all r rec n (suc count) kept all =
@@ -132,6 +143,7 @@ units_all r rec n (suc count) kept all =
     ∙ ap (λ (o : Option (List ℕ)). length (with_unit r (Some f.0) o (units_from r rec (suc n) count))) unit.1 in
     omega (arith, first, units_all r rec (suc n) count (λ k low high. kept k (omega (arith, low)) high) (omega (arith, all)))
 
+-- the units of a recording from number n on are new in a rendition that has begun, isn't finished, and has only earlier units
 units_new : (s : State) (r : ℕ) (rec : RecordingData) (n count : ℕ) (l : Lane) (init : InitData) → slice_get (channel s).lanes r ≡ Some l → l.init ≡ Some init → l.finished ≡ false
     → AreKeptFrom rec n → n + count ≡ length rec.facts → AreInTime init l.size (l.facts ++ drop n rec.facts) → length s.log + count ≤ 4194304
     → AreNew s (units_from r rec n count)
@@ -164,11 +176,13 @@ units_new s r rec n (suc count) l init at begun unended kept all in_time room =
 
 -- ---- one rendition
 
+-- the units without the first n have no more bytes than all of them
 drop_small : (n : ℕ) (fs : List Facts) → total_bytes (drop n fs) ≤ total_bytes fs
 drop_small zero fs = omega arith
 drop_small (suc n) [] = omega arith
 drop_small (suc n) (f ∷ fs) = omega (arith, drop_small n fs, sum_by-cons len_of f fs)
 
+-- if units are in time order with room for all, so are those from number n on
 later_ones : (init : InitData) (size n : ℕ) (fs : List Facts) → AreInTime init size fs → AreInTime init size (drop n fs)
 later_ones init size n fs in_time = record {
   were = λ k f at. in_time.were (n + k) f (sym (at_drop fs n k) ∙ at);
@@ -184,6 +198,7 @@ recorded_in_time a r l init state at begun =
     let timed = lanes_timed a state.legal r l at in
     record { were = timed.were init begun; in_order = timed.in_order; small = small_lane a state r l at }
 
+-- the init section and the units from the cut on are new in a rendition that hasn't begun
 media_new : (a s : State) (r n : ℕ) (l : Lane) (rec : RecordingData) → IsState a → IsCutHere a r n l → IsWholeOf a r l rec → slice_get (channel s).lanes r ≡ Some no_lane
     → length s.log + length (media_from r (Some rec) n) ≤ 4194304 → AreNew s (media_from r (Some rec) n)
 media_new a s r n l rec state here is fresh room =
@@ -205,11 +220,13 @@ media_new a s r n l rec state here is fresh room =
           (omega (arith, room, few, next_entries s e new)),
     )
 
+-- the end of a rendition that has begun and isn't finished is new, as is no end at all
 end_new : (s : State) (r : ℕ) (l : Lane) (init : InitData) (finished : Bool) → slice_get (channel s).lanes r ≡ Some l → l.init ≡ Some init → l.finished ≡ false
     → length s.log + length (end_of r (Some finished)) ≤ 4194304 → AreNew s (end_of r (Some finished))
 end_new s r l init true at begun unended room = (finish_new s r l init at begun unended (omega (arith, room)), tt)
 end_new s r l init false at begun unended room = tt
 
+-- all events of a recorded rendition are new if it hasn't begun in the renewed channel and the log has room
 begun_new : (a s : State) (r n : ℕ) (l : Lane) (rec : RecordingData) → IsState a → IsCutHere a r n l → IsWholeOf a r l rec → slice_get (channel s).lanes r ≡ Some no_lane
     → length s.log + length (media_from r (Some rec) n ++ end_of r (Some l.finished)) ≤ 4194304 → AreNew s (media_from r (Some rec) n ++ end_of r (Some l.finished))
 begun_new a s r n l rec state here is fresh room =
@@ -223,16 +240,19 @@ begun_new a s r n l rec state here is fresh room =
     new_append s media (end_of r (Some l.finished)) new
     (end_new (replayed_state s media) r _ rec.init l.finished there refl refl (omega (arith, room, split, new_entries s media new)))
 
+-- a rendition that isn't recorded has no events, so all of them are new
 bare_new : (a s : State) (r n : ℕ) (l : Lane) → IsState a → slice_get (channel a).lanes r ≡ Some l → recording_of a r ≡ None → AreNew s (media_from r None n ++ end_of r (Some l.finished))
 bare_new a s r n l state at found =
     let bare = bare_of a r l state at found in
     subst (λ (b : Bool). AreNew s (end_of r (Some b))) (sym bare) tt
 
+-- the events of a rendition are new, whether or not it is recorded
 by_recording : (a s : State) (r n : ℕ) (l : Lane) (o : Option RecordingData) → IsState a → IsCutHere a r n l → recording_of a r ≡ o → slice_get (channel s).lanes r ≡ Some no_lane
     → length s.log + length (media_from r o n ++ end_of r (Some l.finished)) ≤ 4194304 → AreNew s (media_from r o n ++ end_of r (Some l.finished))
 by_recording a s r n l None state here found fresh room = bare_new a s r n l state here.at found
 by_recording a s r n l (Some rec) state here found fresh room = begun_new a s r n l rec state here (whole_of a r l rec state here.at found) fresh room
 
+-- the events of a rendition from the cut on are new if it hasn't begun in the renewed channel and the log has room
 rendition_new : (a s : State) (r n : ℕ) (l : Lane) → IsState a → IsCutHere a r n l → slice_get (channel s).lanes r ≡ Some no_lane
     → length s.log + length (rendition_from a r n) ≤ 4194304 → AreNew s (rendition_from a r n)
 rendition_new a s r n l state here fresh room =
@@ -247,9 +267,11 @@ rendition_new a s r n l state here fresh room =
 abbrev AreCutsHere : State → ℕ → List Spot → Type 0
 AreCutsHere a r spots = (k : ℕ) (spot : Spot) (l : Lane) → slice_get spots k ≡ Some spot → slice_get (channel a).lanes (r + k) ≡ Some l → IsCutHere a (r + k) spot.fragment l
 
+-- no rendition of the channel from number r on has begun in the renewed one
 abbrev AreFresh : State → State → ℕ → Type 0
 AreFresh a s r = (q : ℕ) (l : Lane) → r ≤ q → slice_get (channel a).lanes q ≡ Some l → slice_get (channel s).lanes q ≡ Some no_lane
 
+-- the events of rendition r are new, whether or not the channel has this rendition
 one_new : (a s : State) (r : ℕ) (spot : Spot) (spots : List Spot) (o : Option Lane) → IsState a → slice_get (channel a).lanes r ≡ o → AreCutsHere a r (spot ∷ spots) → AreFresh a s r
     → length s.log + length (rendition_from a r spot.fragment) ≤ 4194304 → AreNew s (rendition_from a r spot.fragment)
 one_new a s r spot spots None state at here fresh room =
@@ -264,6 +286,7 @@ one_new a s r spot spots (Some l) state at here fresh room =
     subst (λ (q : ℕ). IsCutHere a q spot.fragment l) number (here 0 spot l refl (ap (λ q. slice_get (channel a).lanes q) number ∙ at)) in
     rendition_new a s r spot.fragment l state mine (fresh r l (omega arith) at) room
 
+-- the events of all renditions from number r on are new, if none has begun and the log has room
 pub renditions_new : (a s : State) (r : ℕ) (spots : List Spot) → IsState a → AreCutsHere a r spots → AreFresh a s r → length s.log + length (renditions_from a r spots) ≤ 4194304
     → AreNew s (renditions_from a r spots)
 renditions_new a s r [] state here fresh room = tt
@@ -280,7 +303,7 @@ renditions_new a s r (spot ∷ spots) state here fresh room =
     new_append s own (renditions_from a (suc r) spots) new
     (renditions_new a (replayed_state s own) (suc r) spots state next left (omega (arith, room, split, new_entries s own new)))
 
--- from the opening state
+-- the events of all renditions are new from the opening state of a renewal
 pub all_renditions_new : (a : State) (cut : LineCut) → IsState a → first_cut a ≡ Some cut → AreNew (renewal_start a cut) (renditions_from a 0 (cut.place).spots)
 all_renditions_new a cut state first =
     let is = is_line_cut a cut state first in

@@ -18,30 +18,36 @@ use Rattle.hls_renewal.specs.Programmes.{programme_since, table_since}
 
 -- ---- a place, counted from a cut
 
+-- a place that is counted from a cut starts at the same time in rendition 0
 time-since : (cut spots : List Spot) → length spots ≡ length cut → (spot_in (spots_since cut spots) 0).start ≡ (spot_in spots 0).start
 time-since [] [] count = refl
 time-since [] (spot ∷ spots) count = absurd (omega (arith, count))
 time-since (c ∷ cut) [] count = absurd (omega (arith, count))
 time-since (c ∷ cut) (spot ∷ spots) count = refl
 
+-- spots that are counted from a cut are as many as the cut's
 count-since : (cut spots : List Spot) → length spots ≡ length cut → length (spots_since cut spots) ≡ length cut
 count-since [] [] count = refl
 count-since [] (spot ∷ spots) count = absurd (omega (arith, count))
 count-since (c ∷ cut) [] count = absurd (omega (arith, count))
 count-since (c ∷ cut) (spot ∷ spots) count = ap suc (count-since cut spots (omega (arith, count)))
 
+-- the spots of places that are counted from a cut are those of the places, counted from the cut
 spots-mapped : (cut : List Spot) (places : List Place) → spots_of (map (place_since cut) places) ≡ map (spots_since cut) (spots_of places)
 spots-mapped cut [] = refl
 spots-mapped cut (p ∷ places) = ap (λ (rest : List (List Spot)). spots_since cut p.spots ∷ rest) (spots-mapped cut places)
 
 -- ---- places in time order, each with a spot for each rendition
 
+-- place k of a list
 abbrev nth : List Place → ℕ → Place
 nth places k = get_or places k no_place
 
+-- the places of a list have rising times
 abbrev pub Rise : List Place → Type 0
 Rise places = (i j : ℕ) → i < j → j < length places → time_of (nth places i) < time_of (nth places j)
 
+-- in a list with rising times a place is at or after each earlier one
 rises-on : (places : List Place) → Rise places → (i j : ℕ) → i ≤ j → j < length places → time_of (nth places i) ≤ time_of (nth places j)
 rises-on places rise i j up h = elim (cases_lt i j) [
   | inl less ↦ (let rises = rise i j less h in omega (arith, rises))
@@ -52,20 +58,25 @@ rises-on places rise i j up h = elim (cases_lt i j) [
 
 module _ (cut : List Spot) (xs : List Place) (m : ℕ) (rise : Rise xs) (here : m < length xs)
     (counts : (k : ℕ) → k < length xs → length (nth xs k).spots ≡ length cut) where
+  -- the places from number m on, counted from the cut
   abbrev since : List Place
   since = map (place_since cut) (drop m xs)
 
+  -- there are as many counted places as places from number m on
   long : length since ≡ length xs - m
   long = length-map (drop m xs) (place_since cut) ∙ length-drop m xs
 
+  -- the counted place k is place m + k, counted from the cut
   at : (k : ℕ) → m + k < length xs → nth since k ≡ place_since cut (nth xs (m + k))
   at k h =
       let left = length-drop m xs in
       get_or-map (place_since cut) (drop m xs) k no_place no_place (omega (arith, h, left)) ∙ ap (place_since cut) (get_or-drop m xs k no_place)
 
+  -- the counted place k has the time of place m + k
   time-at : (k : ℕ) → m + k < length xs → time_of (nth since k) ≡ time_of (nth xs (m + k))
   time-at k h = ap time_of (at k h) ∙ time-since cut (nth xs (m + k)).spots (counts (m + k) h)
 
+  -- both lists have places of the same number of renditions
   renditions : renditions_in since ≡ renditions_in xs
   renditions =
       let none : m + 0 ≡ m = omega arith in
@@ -75,6 +86,7 @@ module _ (cut : List Spot) (xs : List Place) (m : ℕ) (rise : Rise xs) (here : 
       ∙ sym (counts 0 (omega (arith, here)))
       ∙ sym (ap length (table-place xs 0))
 
+  -- a range of the counted places is the range of the list that begins m places later, counted from the cut
   range : (s e : ℕ) → slice_range since s (e + 1) ≡ map (place_since cut) (slice_range xs (m + s) (m + e + 1))
   range s e =
       let count : e + 1 - s ≡ m + e + 1 - (m + s) = omega arith in
@@ -82,7 +94,7 @@ module _ (cut : List Spot) (xs : List Place) (m : ℕ) (rise : Rise xs) (here : 
       ∙ take-map (place_since cut) (e + 1 - s) (drop (m + s) xs)
       ∙ ap (λ (n : ℕ). map (place_since cut) (take n (drop (m + s) xs))) count
 
-  -- the same table
+  -- a table of the counted places is the table of the list m places later, counted from the cut
   table : (goal : Goal) (s e : ℕ) → table_between goal since s e ≡ table_since cut (table_between goal xs (m + s) (m + e))
   table goal s e =
       let mapped = ap spots_of (range s e) ∙ spots-mapped cut (slice_range xs (m + s) (m + e + 1)) in
@@ -90,6 +102,7 @@ module _ (cut : List Spot) (xs : List Place) (m : ℕ) (rise : Rise xs) (here : 
 
   -- a start at that place or later
   module _ (start : ℕ) (from : time_of (nth xs m) ≤ start) where
+    -- if place m + s is the last one by the start, the counted place s is
     begins : (s : ℕ) → IsLastPlaceBy xs start (m + s) → IsLastPlaceBy since start s
     begins s is =
         let there = is.there in
@@ -104,6 +117,7 @@ module _ (cut : List Spot) (xs : List Place) (m : ℕ) (rise : Rise xs) (here : 
               omega (arith, last, same);
         }
 
+    -- if the counted place s is the last one by the start, place m + s is
     began : (s : ℕ) → IsLastPlaceBy since start s → IsLastPlaceBy xs start (m + s)
     began s is =
         let there = is.there in
@@ -120,16 +134,18 @@ module _ (cut : List Spot) (xs : List Place) (m : ℕ) (rise : Rise xs) (here : 
               omega (arith, last, same, equal);
         }
 
-    -- the last place by such a time isn't earlier
+    -- the last place by the start is place m or a later one
     begins-late : (s : ℕ) → IsLastPlaceBy xs start s → m ≤ s
     begins-late s is = elim (cases_lt s m) [
       | inl less ↦ (let after = is.last m less here in absurd (omega (arith, after, from)))
       | inr up ↦ up
     ]
 
+    -- the list has a place at or before the start
     one-by : NoPlaceBy xs start → ⊥
     one-by none = let after = none m here in omega (arith, after, from)
 
+    -- the counted places have one at or before the start
     one-since : NoPlaceBy since start → ⊥
     one-since none =
         let count = long in
@@ -140,10 +156,11 @@ module _ (cut : List Spot) (xs : List Place) (m : ℕ) (rise : Rise xs) (here : 
         omega (arith, after, from, same, equal)
 
     module _ (stop : ℕ) (order : start < stop) where
-      -- places before a stop
+      -- place m and each earlier one are before the stop
       early : (k : ℕ) → k ≤ m → time_of (nth xs k) < stop
       early k up = let on = rises-on xs rise k m up here in omega (arith, on, from, order)
 
+      -- if place m + e is the first one from the stop on, the counted place e is
       ends : (e : ℕ) → IsFirstPlaceFrom xs stop (m + e) → IsFirstPlaceFrom since stop e
       ends e is =
           let there = is.there in
@@ -157,6 +174,7 @@ module _ (cut : List Spot) (xs : List Place) (m : ℕ) (rise : Rise xs) (here : 
                 omega (arith, first, same);
           }
 
+      -- if the counted place e is the first one from the stop on, place m + e is
       ended : (e : ℕ) → IsFirstPlaceFrom since stop e → IsFirstPlaceFrom xs stop (m + e)
       ended e is =
           let there = is.there in
@@ -177,13 +195,14 @@ module _ (cut : List Spot) (xs : List Place) (m : ℕ) (rise : Rise xs) (here : 
             ];
           }
 
+      -- the first place from the stop on is place m or a later one
       ends-late : (e : ℕ) → IsFirstPlaceFrom xs stop e → m ≤ e
       ends-late e is = elim (cases_lt e m) [
         | inl less ↦ (let late = is.from in let on = early e (omega (arith, less)) in absurd (omega (arith, late, on)))
         | inr up ↦ up
       ]
 
-      -- the programme's table
+      -- the table of a programme of the list, counted from the cut, is that of the counted places
       table-on : (goal : Goal) (t : Table) → IsProgrammeTable goal xs start stop t → IsProgrammeTable goal since start stop (table_since cut t)
       table-on goal t is =
           let up = begins-late is.s is.begins in
@@ -199,6 +218,7 @@ module _ (cut : List Spot) (xs : List Place) (m : ℕ) (rise : Rise xs) (here : 
                 ∙ sym (table goal (is.s - m) (is.e - m));
           }
 
+      -- each table of a programme of the counted places is one of the list, counted from the cut
       table-back : (goal : Goal) (t : Table) → IsProgrammeTable goal since start stop t → (old : Table) × IsProgrammeTable goal xs start stop old × (t ≡ table_since cut old)
       table-back goal t is = (
         table_between goal xs (m + is.s) (m + is.e),
@@ -227,7 +247,7 @@ module _ (cut : List Spot) (xs : List Place) (m : ℕ) (rise : Rise xs) (here : 
           ∙ ap (λ (q : Place). q.spots) (get_or-take (is.e + 1 - is.s) (drop is.s xs) p no_place (omega (arith, inside, taken)) ∙ get_or-drop is.s xs p no_place) in
           subst (AreSpotsFrom cut) (sym same) (row (is.s + p) (omega (arith, up)) (omega (arith, inside, taken, left)))
 
-      -- it has one
+      -- the table of a programme has a place
       pub table-some : (goal : Goal) (t : Table) → IsProgrammeTable goal xs start stop t → 0 < length t.places
       table-some goal t is =
           let part : List Place = slice_range xs is.s (is.e + 1) in
@@ -242,10 +262,11 @@ module _ (cut : List Spot) (xs : List Place) (m : ℕ) (rise : Rise xs) (here : 
           let left = length-drop is.s xs in
           omega (arith, up, inside, taken, left, ap (λ (u : Table). length u.places) is.is, length-map part (λ (q : Place). q.spots))
 
+      -- the table of a programme has as many renditions as the cut has spots
       pub table-renditions : (goal : Goal) (t : Table) → IsProgrammeTable goal xs start stop t → t.renditions ≡ length cut
       table-renditions goal t is = ap (λ (u : Table). u.renditions) is.is ∙ ap length (table-place xs 0) ∙ counts 0 (omega (arith, here))
 
-      -- a stop after the last place
+      -- if the stop is after the last place of the list, it is after the last counted place
       late-on : NoPlaceFrom xs stop → NoPlaceFrom since stop
       late-on late k h =
           let count = long in
@@ -254,6 +275,7 @@ module _ (cut : List Spot) (xs : List Place) (m : ℕ) (rise : Rise xs) (here : 
           let same = time-at k inside in
           omega (arith, before, same)
 
+      -- if the stop is after the last counted place, it is after the last place of the list
       late-back : NoPlaceFrom since stop → NoPlaceFrom xs stop
       late-back late k h = elim (cases_lt k m) [
         | inl less ↦ early k (omega (arith, less))
@@ -267,12 +289,15 @@ module _ (cut : List Spot) (xs : List Place) (m : ℕ) (rise : Rise xs) (here : 
             )
       ]
 
+      -- if the programme of the list stops after its last place, so does that of the counted places
       stops-on : StopsLate xs start stop → StopsLate since start stop
       stops-on is = record { begins = one-since; late = late-on is.late }
 
+      -- if the programme of the counted places stops after their last one, so does that of the list
       stops-back : StopsLate since start stop → StopsLate xs start stop
       stops-back is = record { begins = one-by; late = late-back is.late }
 
+      -- counting from a cut leaves the number of a table's places
       same-long : (t : Table) → length (table_since cut t).places ≡ length t.places
       same-long t = length-map t.places (spots_since cut)
 
@@ -286,10 +311,11 @@ module _ (cut : List Spot) (xs : List Place) (m : ℕ) (rise : Rise xs) (here : 
       programme-on goal finished (Err Memory) is = let few = is.2 in (table_since cut is.0, table-on goal is.0 is.1, omega (arith, few, same-long is.0))
       programme-on goal finished (Ok t) is = let few = is.1 in (table-on goal t is.0, omega (arith, few, same-long t))
 
+      -- a table that is counted from a cut has as many places as the table that it is made of
       old-long : (t old : Table) → t ≡ table_since cut old → length t.places ≡ length old.places
       old-long t old is = ap (λ (u : Table). length u.places) is ∙ same-long old
 
-      -- and the list from there on has no other programme
+      -- each programme of the list from there on is that of the whole list, counted from the place
       pub programme-back : (goal : Goal) (finished : Bool) (found : Result Table ProgrammeFault) → IsProgramme goal since finished start stop found
           → (old : Result Table ProgrammeFault) × IsProgramme goal xs finished start stop old × (found ≡ programme_since cut old)
       programme-back goal finished (Err BeforeRecording) is = absurd (one-since is)

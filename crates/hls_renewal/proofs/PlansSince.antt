@@ -20,6 +20,7 @@ end-stays c t later =
     let apart : (t.fragment == c.fragment) ≡ false = grind (arith) in
     cond-false (t.fragment == c.fragment) t.start t.prev_end apart
 
+-- a step between two spots from the cut on that is allowed in a rendition is allowed when they are counted from the cut
 spot-step : (target : ℕ) (c s t : Spot) → IsSpotFrom c s → IsSpotFrom c t → IsSpotStep target s t → IsSpotStep target (spot_since c s) (spot_since c t)
 spot-step target c s t from to step =
     let before = from.fragment in
@@ -33,6 +34,7 @@ spot-step target c s t from to step =
       fits = rw stays step.fits;
     }
 
+-- a step that is allowed between counted spots is allowed between the spots themselves
 spot-back : (target : ℕ) (c s t : Spot) → IsSpotFrom c s → IsSpotFrom c t → IsSpotStep target (spot_since c s) (spot_since c t) → IsSpotStep target s t
 spot-back target c s t from to step =
     let before = from.fragment in
@@ -54,23 +56,29 @@ spot-back target c s t from to step =
 
 module _ (cut : List Spot) (t : Table) (some : 0 < t.renditions) (counts : t.renditions ≡ length cut)
     (after : (p : ℕ) → p < length t.places → AreSpotsFrom cut (place_at t.places p)) where
+  -- the table, counted from the cut
   abbrev since : Table
   since = table_since cut t
 
+  -- both tables have the same number of places
   long : length since.places ≡ length t.places
   long = length-map t.places (spots_since cut)
 
+  -- place p of the counted table is place p of the table, counted from the cut
   pub mapped : (p : ℕ) → p < length t.places → place_at since.places p ≡ spots_since cut (place_at t.places p)
   mapped p h = get_or-map (spots_since cut) t.places p [] [] h
 
+  -- in each rendition, the spot of a place of the counted table is that of the table, counted from the cut's
   pub spot : (p r : ℕ) → p < length t.places → r < t.renditions → spot_in (place_at since.places p) r ≡ spot_since (spot_in cut r) (spot_in (place_at t.places p) r)
   spot p r h within =
       ap (λ (spots : List Spot). spot_in spots r) (mapped p h)
       ∙ spot_since_at cut (place_at t.places p) r (after p h) (omega (arith, within, counts))
 
+  -- no spot of the table precedes the cut's spot in its rendition
   pub from : (p r : ℕ) → p < length t.places → r < t.renditions → IsSpotFrom (spot_in cut r) (spot_in (place_at t.places p) r)
   from p r h within = from_at cut (place_at t.places p) r (after p h) (omega (arith, within, counts))
 
+  -- a step that is allowed in the table is allowed in the counted one
   on : (p q : ℕ) → Allowed t p q → Allowed since p q
   on p q is =
       let there = is.from in
@@ -84,6 +92,7 @@ module _ (cut : List Spot) (t : Table) (some : 0 < t.renditions) (counts : t.ren
             (spot-step t.goal.target (spot_in cut r) (spot_in (place_at t.places p) r) (spot_in (place_at t.places q) r) (from p r there h) (from q r to h) (is.step r h)));
       }
 
+  -- a step that is allowed in the counted table is allowed in the table
   back : (p q : ℕ) → Allowed since p q → Allowed t p q
   back p q is =
       let counted = is.from in
@@ -99,6 +108,7 @@ module _ (cut : List Spot) (t : Table) (some : 0 < t.renditions) (counts : t.ren
             (subst (λ (x : Spot). IsSpotStep t.goal.target x (spot_in (place_at since.places q) r)) (spot p r there h) (is.step r h)));
       }
 
+  -- an allowed step has the same cost in both tables
   same-cost : (p q : ℕ) → Allowed t p q → cost since p q ≡ cost t p q
   same-cost p q is =
       let before = (from p 0 is.from some).fragment in
@@ -109,6 +119,7 @@ module _ (cut : List Spot) (t : Table) (some : 0 < t.renditions) (counts : t.ren
       ap (λ (n : ℕ). abs_diff (n - (spot_in (place_at since.places p) 0).start) t.goal.preferred + charge_of t.goal.rule) end
       ∙ ap (λ (n : ℕ). abs_diff ((spot_in (place_at t.places q) 0).prev_end - n) t.goal.preferred + charge_of t.goal.rule) start
 
+  -- steps that are allowed in the table are allowed in the counted one, at the same cost
   steps-on : (p : ℕ) (rest : List ℕ) → StepsAreAllowed t p rest → StepsAreAllowed since p rest × (cost_from since p rest ≡ cost_from t p rest)
   steps-on p [] are = (tt, refl)
   steps-on p (q ∷ rest) are =
@@ -117,20 +128,24 @@ module _ (cut : List Spot) (t : Table) (some : 0 < t.renditions) (counts : t.ren
       let there = others.1 in
       ((on p q are.0, others.0), omega (arith, here, there))
 
+  -- steps that are allowed in the counted table are allowed in the table
   steps-back : (p : ℕ) (rest : List ℕ) → StepsAreAllowed since p rest → StepsAreAllowed t p rest
   steps-back p [] are = tt
   steps-back p (q ∷ rest) are = (back p q are.0, steps-back q rest are.1)
 
+  -- a plan of the table is a plan of the counted one, at the same cost
   plan-on : (plan : List ℕ) → IsPlan t plan → IsPlan since plan × (plan_cost since plan ≡ plan_cost t plan)
   plan-on [] is = absurd is
   plan-on (p ∷ rest) is =
       let steps = steps-on p rest is.2 in
       ((is.0, is.1 ∙ ap (λ (n : ℕ). n - 1) (sym long), steps.0), steps.1)
 
+  -- a plan of the counted table is a plan of the table
   plan-back : (plan : List ℕ) → IsPlan since plan → IsPlan t plan
   plan-back [] is = absurd is
   plan-back (p ∷ rest) is = (is.0, is.1 ∙ ap (λ (n : ℕ). n - 1) long, steps-back p rest is.2)
 
+  -- a least plan of the table is least in the counted one
   least-on : (plan : List ℕ) → IsLeast t plan → IsLeast since plan
   least-on plan is = record {
     is_plan = (plan-on plan is.is_plan).0;
@@ -142,6 +157,7 @@ module _ (cut : List Spot) (t : Table) (some : 0 < t.renditions) (counts : t.ren
         omega (arith, less, one, two);
   }
 
+  -- a least plan of the counted table is least in the table
   least-back : (plan : List ℕ) → IsLeast since plan → IsLeast t plan
   least-back plan is = record {
     is_plan = plan-back plan is.is_plan;
@@ -152,5 +168,6 @@ module _ (cut : List Spot) (t : Table) (some : 0 < t.renditions) (counts : t.ren
         omega (arith, less, one, two);
   }
 
+  -- both tables have the same plans, at the same costs, and the same ones are least
   pub same_plans : HasSamePlans t since
   same_plans = record { plans = plan-on; no_others = plan-back; least = least-on; least_before = least-back }

@@ -17,6 +17,7 @@ use Rattle.hls_core_laws.specs.IsState.{IsState}
 use Rattle.hls_core_laws.specs.Places.{sources, places}
 use Rattle.hls_core_laws.proofs.Callers.{lanes_count, some_at, source_of, states_are_timed, units_are_logged}
 
+-- a filter keeps at most all elements
 filtered : {X Y : Type 0} (f : X → Option Y) (xs : List X) → length (filter_map f xs) ≤ length xs
 filtered f [] = omega arith
 filtered f (x ∷ xs) = elim (f x) as (λ o. length (cons_option o (filter_map f xs)) ≤ suc (length xs)) [
@@ -24,6 +25,7 @@ filtered f (x ∷ xs) = elim (f x) as (λ o. length (cons_option o (filter_map f
   | Some y ↦ omega (arith, filtered f xs)
 ]
 
+-- a place that is there only under a condition is at most one
 closed : (b : Bool) (p : Place) → length (if b then p ∷ [] else []) ≤ 1
 closed true p = omega arith
 closed false p = omega arith
@@ -46,23 +48,26 @@ some_spots s state k p at =
     let same : get_or (places s) k no_place ≡ p = let there = slice_get-get_or (places s) k no_place below in cc in
     omega (arith, are.some, here.place.count, ap (λ (q : Place). length q.spots) same)
 
--- the line of the first places
+-- the line of the first n places, with no segment removed
 abbrev pub line_to : LineGoal → List Place → ℕ → Live
 line_to line_goal ps n = live_of line_goal (take n ps) 0
 
+-- the line of no places is a fresh one
 pub line_begins : (line_goal : LineGoal) (ps : List Place) → fresh line_goal ≡ line_to line_goal ps 0
 unfolding advanced_through
 line_begins line_goal ps = refl
 
--- it has no more segments than places
+-- the line of the first n places has at most n segments
 pub line_fits : (line_goal : LineGoal) (ps : List Place) (n : ℕ) → length (line_to line_goal ps n).progress.line.segments ≤ n
 line_fits line_goal ps n = omega (arith, segments-few line_goal (take n ps), length-take n ps)
 
+-- adding a list of one place is adding the place
 one_more : (line : Live) (p : Place) → live_after_all line (p ∷ []) ≡ live_after line p
 one_more line p =
     let same = progress-more line.line_goal line.removed line.progress p [] ∙ progress-none line.line_goal line.removed (live_after line p).progress in
     λ k. record { line_goal = line.line_goal; progress = same k; removed = line.removed; breaks = line.breaks }
 
+-- the line of the first n places and place n after them make the line of the first n + 1 places
 pub line_continues : (line_goal : LineGoal) (ps : List Place) (n : ℕ) (p : Place) (line next : Live) → slice_get ps n ≡ Some p
     → line ≡ line_to line_goal ps n → next ≡ live_after line p → next ≡ line_to line_goal ps (n + 1)
 line_continues line_goal ps n p line next at so_far is =
@@ -74,5 +79,6 @@ line_continues line_goal ps n p line next at so_far is =
     ∙ sym (live-moves line_goal (take n ps) (p ∷ []) 0 (omega arith))
     ∙ ap (λ xs. live_of line_goal xs 0) (sym taken)
 
+-- the line of at least as many places as there are is the line of all places
 pub line_ends : (line_goal : LineGoal) (ps : List Place) (n : ℕ) (line : Live) → length ps ≤ n → line ≡ line_to line_goal ps n → line ≡ live_of line_goal ps 0
 line_ends line_goal ps n line past is = is ∙ ap (λ xs. live_of line_goal xs 0) (take_all n ps past)

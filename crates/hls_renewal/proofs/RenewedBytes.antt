@@ -30,10 +30,11 @@ use Rattle.hls_renewal.proofs.RenewedLanes.{AreKeptFrom, IsCutHere, kept_units, 
 
 -- ---- the bytes that events keep of rendition r
 
+-- the bytes that a rendition keeps after it begins: those of its init section, and of no unit
 abbrev begun_with : List ℕ → HeldBytes → HeldBytes
 begun_with head h = record { head = head; units = [] }
 
--- a renewal doesn't trim
+-- the bytes that are kept of rendition r after an event; a trim changes nothing here, for a renewal doesn't trim
 abbrev held_after : ℕ → Event → HeldBytes → HeldBytes
 held_after r (Begin q init bytes) h = chosen (r == q) (begun_with bytes h) h
 held_after r (Accept q f bytes) h = chosen (r == q) (push_unit_bytes h bytes) h
@@ -41,6 +42,7 @@ held_after r (Finish q) h = h
 held_after r (Slide count) h = h
 held_after r (Trim q floor) h = h
 
+-- events of other renditions leave the bytes of rendition r
 ignores : IgnoresOthers held_after
 ignores r (Begin q init bytes) h differ = ap (λ (b : Bool). chosen b (begun_with bytes h) h) differ
 ignores r (Accept q f bytes) h differ = ap (λ (b : Bool). chosen b (push_unit_bytes h bytes) h) differ
@@ -48,6 +50,7 @@ ignores r (Finish q) h differ = refl
 ignores r (Slide count) h differ = refl
 ignores r (Trim q floor) h differ = refl
 
+-- after an event of a renewal, the bytes of rendition r are those that `held_after` says
 held_by_one : (a s : State) (e : Event) (r : ℕ) (h : HeldBytes) → IsOf a e → slice_get s.bytes r ≡ Some h → slice_get (bytes_after s e) r ≡ Some (held_after r e h)
 held_by_one a s (Begin q init bytes) r h of at = set_chosen s.bytes no_bytes r q h (begun_with bytes) at
 held_by_one a s (Accept q f bytes) r h of at = set_chosen s.bytes no_bytes r q h (λ x. push_unit_bytes x bytes) at
@@ -55,6 +58,7 @@ held_by_one a s (Finish q) r h of at = at
 held_by_one a s (Slide count) r h of at = at
 held_by_one a s (Trim q floor) r h of at = absurd of
 
+-- after a list of new events of a renewal, the bytes of rendition r are those that a run of `held_after` says
 held_by_all : (a s : State) (es : List (ℕ × Event)) (r : ℕ) (h : HeldBytes) → AreNew s es → AreOf a es → slice_get s.bytes r ≡ Some h
     → slice_get (replayed_state s es).bytes r ≡ Some (run held_after r es h)
 held_by_all a s [] r h new of at = at
@@ -66,18 +70,23 @@ held_by_all a s (e ∷ es) r h new of at =
 
 -- ---- its own events
 
+-- the kept bytes with more units after them
 abbrev with_units : List (List ℕ) → HeldBytes → HeldBytes
 with_units us h = record { head = h.head; units = h.units ++ us }
 
+-- no more units leave the kept bytes as they are
 none_more : (h : HeldBytes) → h ≡ with_units [] h
 none_more h = let same = sym (append-nil h.units) in λ k. record { head = h.head; units = same k }
 
+-- one unit and then others are the same as all of them at once
 one_more : (unit : List ℕ) (us : List (List ℕ)) (h : HeldBytes) → with_units us (push_unit_bytes h unit) ≡ with_units (unit ∷ us) h
 one_more unit us h = let same = append_assoc h.units (unit ∷ []) us in λ k. record { head = h.head; units = same k }
 
+-- a unit at or above the floor is among the kept units, counted from the floor
 kept_at : (rec : RecordingData) (n : ℕ) (unit : List ℕ) → rec.floor ≤ n → unit_at rec n ≡ Some unit → slice_get rec.units (n - rec.floor) ≡ Some unit
 kept_at rec n unit above at = sym (ap (λ (b : Bool). cond b None (slice_get rec.units (n - rec.floor))) (le-ltb n rec.floor above)) ∙ at
 
+-- the events of a recording's units from number n on add exactly these units to the kept bytes
 own_units : (r : ℕ) (rec : RecordingData) (n count : ℕ) (h : HeldBytes) → (r == r) ≡ true → AreKeptFrom rec n → rec.floor ≤ n
     → rec.floor + length rec.units ≡ length rec.facts → n + count ≡ length rec.facts
     → run held_after r (units_from r rec n count) h ≡ with_units (drop (n - rec.floor) rec.units) h
@@ -100,16 +109,18 @@ own_units r rec n (suc count) h same kept above whole all =
     ∙ one_more unit.0 (drop (suc n - rec.floor) rec.units) h
     ∙ ap (λ us. with_units us h) (sym split)
 
+-- the end of a rendition leaves its bytes
 own_end : (r : ℕ) (finished : Option Bool) (h : HeldBytes) → run held_after r (end_of r finished) h ≡ h
 own_end r None h = refl
 own_end r (Some true) h = refl
 own_end r (Some false) h = refl
 
--- what rendition r keeps of a state from unit n on
+-- what a renewed channel keeps of a rendition: the init section and the units from number n on, or nothing if it isn't recorded
 abbrev pub held_by : Option RecordingData → ℕ → HeldBytes
 held_by None n = no_bytes
 held_by (Some rec) n = record { head = rec.head; units = drop (n - rec.floor) rec.units }
 
+-- the events of a rendition's init section and units from n on make it keep exactly these, whether or not it is recorded
 own_media : (a : State) (r n : ℕ) (l : Lane) (o : Option RecordingData) → IsState a → IsCutHere a r n l → recording_of a r ≡ o
     → run held_after r (media_from r o n) no_bytes ≡ held_by o n
 own_media a r n l None state here found = refl
@@ -123,12 +134,14 @@ own_media a r n l (Some rec) state here found =
 
 -- ---- the renewed channel
 
+-- before the events of a renewal, no rendition keeps bytes
 no_bytes_at : (a : State) (cut : LineCut) (r : ℕ) (l : Lane) → slice_get (channel a).lanes r ≡ Some l → slice_get (renewal_start a cut).bytes r ≡ Some no_bytes
 no_bytes_at a cut r l at =
     let within : r < length a.config.renditions = omega (arith, slice_get_within (channel a).lanes r l at, lanes_count a.config a.log) in
     let there = some_at a.config.renditions r within in
     at_map no_bytes_of a.config.renditions r there.0 there.1
 
+-- a renewed channel keeps the init section and the units from the cut on, in each rendition
 pub held_of : (a b : State) (renews : Renews a b) → IsState a → (r : ℕ) (l : Lane) (g : HeldBytes) → slice_get (channel a).lanes r ≡ Some l → slice_get b.bytes r ≡ Some g
     → g ≡ held_by (recording_of a r) (cut_unit (renews.cut).place r)
 held_of a b renews state r l g at there =
@@ -147,11 +160,13 @@ held_of a b renews state r l g at there =
     some_same _ g (sym all ∙ ap (λ (x : State). slice_get x.bytes r) (sym renews.is) ∙ there) in
     sym same ∙ mine ∙ own ∙ own_media a r n l (recording_of a r) state spot.1 refl
 
+-- an empty list of units has no unit
 none_kept : (k : ℕ) (y : List ℕ) (units : List (List ℕ)) → units ≡ [] → slice_get units k ≡ Some y → ⊥
 none_kept k y units none at =
     let nothing : None ≡ Some y = sym (ap (λ us. slice_get us k) none) ∙ at in
     cc
 
+-- if one rendition keeps the units of another from number n on, both have the same bytes for each unit that both keep
 same_units : (a : State) (r n : ℕ) (l m : Lane) (h g : HeldBytes) (o : Option RecordingData) → IsState a → IsCutHere a r n l → slice_get a.bytes r ≡ Some h → m.floor ≡ 0
     → recording_of a r ≡ o → g.units ≡ (held_by o n).units → SameUnitsFrom n l m h g
 same_units a r n l m h g None state here held floor found units k x y above_l above_m at_x at_y = absurd (none_kept (k - m.floor) y g.units units at_y)
@@ -166,6 +181,7 @@ same_units a r n l m h g (Some rec) state here held floor found units k x y abov
     ∙ at_drop rec.units (n - rec.floor) k ∙ ap (λ j. slice_get rec.units j) place ∙ ap (λ us. slice_get us (n + k - l.floor)) old ∙ at_x in
     some_same x y (sym mine ∙ at_y)
 
+-- the units that a renewed channel keeps have the same bytes
 pub same_bytes : RenewedUnitsHaveSameBytes
 same_bytes a b renews state r l m h g at there held also =
     let cut = renews.cut in

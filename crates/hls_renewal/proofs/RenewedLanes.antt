@@ -39,7 +39,7 @@ use Rattle.hls_renewal.proofs.LineCuts.{is_line_cut}
 
 -- ---- one lane at a time
 
--- the effect of an event on rendition r
+-- rendition r after an event
 abbrev pub lane_after : ℕ → Event → Lane → Lane
 lane_after r (Begin q init bytes) l = chosen (r == q) (with_begin init (length bytes) l) l
 lane_after r (Accept q f bytes) l = chosen (r == q) (with_facts f l) l
@@ -47,6 +47,7 @@ lane_after r (Finish q) l = chosen (r == q) (with_finish l) l
 lane_after r (Slide count) l = l
 lane_after r (Trim q floor) l = chosen (r == q) (with_floor floor l) l
 
+-- events of other renditions leave rendition r
 pub ignores : IgnoresOthers lane_after
 ignores r (Begin q init bytes) l differ = ap (λ (b : Bool). chosen b (with_begin init (length bytes) l) l) differ
 ignores r (Accept q f bytes) l differ = ap (λ (b : Bool). chosen b (with_facts f l) l) differ
@@ -54,12 +55,15 @@ ignores r (Finish q) l differ = ap (λ (b : Bool). chosen b (with_finish l) l) d
 ignores r (Slide count) l differ = refl
 ignores r (Trim q floor) l differ = ap (λ (b : Bool). chosen b (with_floor floor l) l) differ
 
+-- rendition r after a list of events
 abbrev pub lane_run : ℕ → List (ℕ × Event) → Lane → Lane
 lane_run r es l = run lane_after r es l
 
+-- after one lane of a channel is changed, rendition r is changed if that is its lane, and else is as it was
 one_set : (ch : Channel) (r q : ℕ) (l : Lane) (f : Lane → Lane) → slice_get ch.lanes r ≡ Some l → slice_get (with_lane ch q (f (lane ch q))).lanes r ≡ Some (chosen (r == q) (f l) l)
 one_set ch r q l f at = set_chosen ch.lanes no_lane r q l f at
 
+-- after one event of the log, rendition r is as `lane_after` says
 after_one : (ch : Channel) (e : Event) (r : ℕ) (l : Lane) → slice_get ch.lanes r ≡ Some l → slice_get (channel_after (logged_event e) ch).lanes r ≡ Some (lane_after r e l)
 after_one ch (Begin q init bytes) r l at = one_set ch r q l (with_begin init (length bytes)) at
 after_one ch (Accept q f bytes) r l at = one_set ch r q l (with_facts f) at
@@ -67,6 +71,7 @@ after_one ch (Finish q) r l at = one_set ch r q l with_finish at
 after_one ch (Slide count) r l at = at
 after_one ch (Trim q floor) r l at = one_set ch r q l (with_floor floor) at
 
+-- after a list of new events, rendition r is as `lane_run` says
 pub after_all : (s : State) (es : List (ℕ × Event)) (r : ℕ) (l : Lane) → AreNew s es → slice_get (channel s).lanes r ≡ Some l
     → slice_get (channel (replayed_state s es)).lanes r ≡ Some (lane_run r es l)
 after_all s [] r l new at = at
@@ -76,25 +81,29 @@ after_all s (e ∷ es) r l new at =
     ap (λ (x : State). slice_get (channel x).lanes r) is ∙ ap (λ (x : Channel). slice_get x.lanes r) (channel_advanced s e.0 e.1) ∙ after_one (channel s) e.1 r l at in
     after_all (next_state s e.0 e.1) es r (lane_after r e.1 l) new.1 there
 
--- the configuration stays
+-- the configuration stays, whatever the outcome of an event
 config_by : (s : State) (by : ℕ) (e : Event) (o : Outcome) → (state_by_outcome o (state_with_entry s by e) s).config ≡ s.config
 config_by s by e New = refl
 config_by s by e Repeated = refl
 config_by s by e (Refused x) = refl
 
+-- events leave the configuration
 pub config_after_all : (s : State) (es : List (ℕ × Event)) → (replayed_state s es).config ≡ s.config
 config_after_all s [] = refl
 config_after_all s (e ∷ es) = config_after_all (next_state s e.0 e.1) es ∙ config_by s e.0 e.1 (outcome_of s e.1)
 
 -- ---- its own events
 
+-- a lane with more units after its own
 abbrev pub with_more : List Facts → Lane → Lane
 with_more fs l = record { init = l.init; size = l.size; facts = l.facts ++ fs; floor = l.floor; finished = l.finished }
 
+-- no more units leave the lane as it is
 none_more : (l : Lane) → l ≡ with_more [] l
 none_more l = let same = sym (append-nil l.facts) in
     λ k. record { init = l.init; size = l.size; facts = same k; floor = l.floor; finished = l.finished }
 
+-- one unit and then others are the same as all of them at once
 one_more : (f : Facts) (fs : List Facts) (l : Lane) → with_more fs (with_facts f l) ≡ with_more (f ∷ fs) l
 one_more f fs l = let same = append_assoc l.facts (f ∷ []) fs in
     λ k. record { init = l.init; size = l.size; facts = same k; floor = l.floor; finished = l.finished }
@@ -103,6 +112,7 @@ one_more f fs l = let same = append_assoc l.facts (f ∷ []) fs in
 abbrev pub AreKeptFrom : RecordingData → ℕ → Type 0
 AreKeptFrom rec n = (k : ℕ) → n ≤ k → k < length rec.facts → (unit : List ℕ) × (unit_at rec k ≡ Some unit)
 
+-- the events of a recording's units from number n on add exactly these units to the lane
 own_units : (r : ℕ) (rec : RecordingData) (n count : ℕ) (l : Lane) → (r == r) ≡ true → AreKeptFrom rec n → n + count ≡ length rec.facts
     → lane_run r (units_from r rec n count) l ≡ with_more (drop n rec.facts) l
 own_units r rec n zero l same kept all =
@@ -121,18 +131,21 @@ own_units r rec n (suc count) l same kept all =
     ∙ one_more f.0 (drop (suc n) rec.facts) l
     ∙ ap (λ fs. with_more fs l) (sym split)
 
+-- the lane, finished if the condition is true
 abbrev ended : Bool → Lane → Lane
 ended true l = with_finish l
 ended false l = l
 
+-- the end of a rendition finishes its lane, if there is such an event
 own_end : (r : ℕ) (finished : Bool) (l : Lane) → (r == r) ≡ true → lane_run r (end_of r (Some finished)) l ≡ ended finished l
 own_end r true l same = ap (λ (b : Bool). chosen b (with_finish l) l) same
 own_end r false l same = refl
 
--- the lane of a rendition that began again
+-- a lane that begins with a recording's init section and has its units from number n on, finished or not
 abbrev renewed_lane : RecordingData → ℕ → Bool → Lane
 renewed_lane rec n finished = ended finished (with_more (drop n rec.facts) (with_begin rec.init (length rec.head) no_lane))
 
+-- the init section and the units of a recording from n on make a lane with that section and these units
 pub own_begun : (r n : ℕ) (rec : RecordingData) → AreKeptFrom rec n → n ≤ length rec.facts
     → lane_run r (media_from r (Some rec) n) no_lane ≡ with_more (drop n rec.facts) (with_begin rec.init (length rec.head) no_lane)
 own_begun r n rec kept few =
@@ -141,6 +154,7 @@ own_begun r n rec kept few =
     ap (λ (b : Bool). lane_run r (units_from r rec n (length rec.facts - n)) (chosen b (with_begin rec.init (length rec.head) no_lane) no_lane)) same
     ∙ own_units r rec n (length rec.facts - n) (with_begin rec.init (length rec.head) no_lane) same kept all
 
+-- the events of a recorded rendition from unit n on make the renewed lane
 own_media : (r n : ℕ) (rec : RecordingData) (finished : Bool) → AreKeptFrom rec n → n ≤ length rec.facts
     → lane_run r (media_from r (Some rec) n ++ end_of r (Some finished)) no_lane ≡ renewed_lane rec n finished
 own_media r n rec finished kept few =
@@ -148,7 +162,7 @@ own_media r n rec finished kept few =
     ∙ own_end r finished (lane_run r (media_from r (Some rec) n) no_lane) (eq-eqb r r refl)
     ∙ ap (λ l. ended finished l) (own_begun r n rec kept few)
 
--- a rendition of the renewed channel is the old one from unit n on
+-- lane m is lane l from unit n on, with the floor at 0
 pub record IsLaneFrom (n : ℕ) (l m : Lane) : Type 0 where
   pub init : m.init ≡ l.init
   pub size : m.size ≡ l.size
@@ -156,12 +170,13 @@ pub record IsLaneFrom (n : ℕ) (l m : Lane) : Type 0 where
   pub floor : m.floor ≡ 0
   pub finished : m.finished ≡ l.finished
 
+-- the renewed lane of a recording with a lane's init section and facts is that lane from unit n on
 begins_again : (l : Lane) (rec : RecordingData) (n : ℕ) (finished : Bool) → l.init ≡ Some rec.init → rec.facts ≡ l.facts → l.size ≡ length rec.head → l.finished ≡ finished
     → IsLaneFrom n l (renewed_lane rec n finished)
 begins_again l rec n true init facts size over = record { init = sym init; size = sym size; facts = ap (λ fs. drop n fs) facts; floor = refl; finished = sym over }
 begins_again l rec n false init facts size over = record { init = sym init; size = sym size; facts = ap (λ fs. drop n fs) facts; floor = refl; finished = sym over }
 
--- so it begins as the old one from its cut on
+-- a lane that is another one from unit n on begins with the init section and the units that the other one has from there
 begins_from : (n : ℕ) (l m : Lane) → IsLaneFrom n l m → LaneBegins (lane_from n l) m
 begins_from n l m is = record {
   init = is.init;
@@ -180,16 +195,17 @@ kept_units floor n rec is whole low k from within =
     let there = some_at rec.units (k - rec.floor) (omega (arith, above, whole, within)) in
     (there.0, ap (λ (b : Bool). cond b None (slice_get rec.units (k - rec.floor))) (le-ltb k rec.floor above) ∙ there.1)
 
+-- values that are equal within `Some` are equal
 pub some_same : {A : Type 0} (x y : A) → Some x ≡ Some y → x ≡ y
 some_same x y same = cc
 
--- a rendition from a cut on: what was recorded, by whether it has begun
+-- rendition r of a state has lane l, and unit n is at or above its floor and at most its number of units
 pub record IsCutHere (a : State) (r n : ℕ) (l : Lane) : Type 0 where
   pub at : slice_get (channel a).lanes r ≡ Some l
   pub low : l.floor ≤ n
   pub high : n ≤ length l.facts
 
--- a recording has all that is kept of its rendition
+-- a recording has all of its lane: the init section, the facts, the floor, and the bytes of each unit from the floor on
 pub record IsWholeOf (a : State) (r : ℕ) (l : Lane) (rec : RecordingData) : Type 0 where
   pub init : l.init ≡ Some rec.init
   pub size : l.size ≡ length rec.head
@@ -198,6 +214,7 @@ pub record IsWholeOf (a : State) (r : ℕ) (l : Lane) (rec : RecordingData) : Ty
   pub units : rec.units ≡ (held_bytes a r).units
   pub count : rec.floor + length rec.units ≡ length rec.facts
 
+-- the recording of a rendition of a state has all of its lane
 pub whole_of : (a : State) (r : ℕ) (l : Lane) (rec : RecordingData) → IsState a → slice_get (channel a).lanes r ≡ Some l → recording_of a r ≡ Some rec → IsWholeOf a r l rec
 whole_of a r l rec state at found =
     let of = of_lane a r rec found in
@@ -221,6 +238,7 @@ whole_of a r l rec state at found =
       count = omega (arith, floor, units, long, matches.kept);
     }
 
+-- the events of a recorded rendition make its lane from the cut on
 begun_lane : (a : State) (r n : ℕ) (l : Lane) (rec : RecordingData) → IsState a → IsCutHere a r n l → recording_of a r ≡ Some rec
     → IsLaneFrom n l (lane_run r (media_from r (Some rec) n ++ end_of r (Some l.finished)) no_lane)
 begun_lane a r n l rec state here found =
@@ -230,11 +248,12 @@ begun_lane a r n l rec state here found =
     subst (λ (m : Lane). IsLaneFrom n l m) (sym (own_media r n rec l.finished kept (omega (arith, long, here.high))))
     (begins_again l rec n l.finished is.init is.facts is.size refl)
 
+-- a rendition without a recording has no init section
 not_begun : (i : Option InitData) (l : Lane) (h : HeldBytes) → recorded_from i l h ≡ None → i ≡ None
 not_begun None l h none = refl
 not_begun (Some init) l h none = absurd (cc)
 
--- what hasn't begun hasn't ended
+-- a rendition that isn't recorded isn't finished
 pub bare_of : (a : State) (r : ℕ) (l : Lane) → IsState a → slice_get (channel a).lanes r ≡ Some l → recording_of a r ≡ None → l.finished ≡ false
 bare_of a r l state at found =
     let beside = at_beside (channel a).lanes a.bytes r l state.counts_agree at in
@@ -242,6 +261,7 @@ bare_of a r l state at found =
     let none : l.init ≡ None = not_begun l.init l (held_bytes a r) (ap (λ (o : Option Lane). recorded_at o (held_bytes a r)) (sym at) ∙ found) in
     (matches.none none).3
 
+-- a rendition that isn't recorded has no events, and is a fresh lane before and after the renewal
 bare_lane : (a : State) (r n : ℕ) (l : Lane) → IsState a → IsCutHere a r n l → recording_of a r ≡ None
     → IsLaneFrom n l (lane_run r (media_from r None n ++ end_of r (Some l.finished)) no_lane)
 bare_lane a r n l state here found =
@@ -258,17 +278,20 @@ bare_lane a r n l state here found =
       finished = sym over;
     })
 
+-- the events of a rendition make its lane from the cut on, whether or not it is recorded
 by_recording : (a : State) (r n : ℕ) (l : Lane) (o : Option RecordingData) → IsState a → IsCutHere a r n l → recording_of a r ≡ o
     → IsLaneFrom n l (lane_run r (media_from r o n ++ end_of r (Some l.finished)) no_lane)
 by_recording a r n l None state here found = bare_lane a r n l state here found
 by_recording a r n l (Some rec) state here found = begun_lane a r n l rec state here found
 
+-- the events of a rendition from number n on make its lane from there on
 pub one_lane : (a : State) (r n : ℕ) (l : Lane) → IsState a → IsCutHere a r n l → IsLaneFrom n l (lane_run r (rendition_from a r n) no_lane)
 one_lane a r n l state here =
     let finished : finished_at a r ≡ Some l.finished = ap (λ (o : Option Lane). option_map (λ (x : Lane). x.finished) o) here.at in
     subst (λ (o : Option Bool). IsLaneFrom n l (lane_run r (media_from r (recording_of a r) n ++ end_of r o) no_lane)) (sym finished)
     (by_recording a r n l (recording_of a r) state here refl)
 
+-- in each rendition, the unit number of a common place is at most the number of units
 place_within : (s : State) (k : ℕ) (p : Place) → slice_get (places s) k ≡ Some p → IsWithin (sources s) p
 place_within s k p at =
     let below = slice_get_within (places s) k p at in
@@ -276,6 +299,7 @@ place_within s k p at =
     let same : get_or (places s) k no_place ≡ p = let there = slice_get-get_or (places s) k no_place below in cc in
     subst (λ (q : Place). IsWithin (sources s) q) same here
 
+-- the cut's unit number in a rendition is at most the number of its units
 cut_within : (a : State) (cut : LineCut) (r : ℕ) (l : Lane) → IsLineCut a cut → slice_get (channel a).lanes r ≡ Some l → cut_unit cut.place r ≤ length l.facts
 cut_within a cut r l is at =
     let within = front-holds (IsWithin (sources a)) (line_goal_of a.config) (places a) cut.segments cut.place (place_within a) (is.is_cut).front in
@@ -319,7 +343,7 @@ renewed_lane_at a b renews state r l m at there =
     some_same _ m (ap Some (sym mine) ∙ sym run ∙ ap (λ (x : State). slice_get (channel x).lanes r) (sym renews.is) ∙ there) in
     subst (λ (x : Lane). IsLaneFrom (cut_unit cut.place r) l x) same (one_lane a r (cut_unit cut.place r) l state spot.1)
 
--- the law
+-- a renewed channel continues the old one at the cut in each rendition, with the base of the cut and no lower version
 pub renewed_channels_are_handed_over : (a b : State) (renews : Renews a b) → IsState a
     → IsHandedOver a b (renews.cut).segments (renews.cut).place × (b.config.base ≡ base_of_cut a (renews.cut).segments (renews.cut).place)
     × (a.config.base.version + length a.log ≤ b.config.base.version + length b.log)

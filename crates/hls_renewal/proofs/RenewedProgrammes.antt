@@ -44,6 +44,7 @@ use Rattle.hls_renewal.proofs.RenewedSources.{IsContinued, places_from_cut, rene
 
 -- ---- tests of lists
 
+-- filtering two lists together is filtering each of them
 filter-append : (test : Place → Bool) (xs ys : List Place) → filter test (xs ++ ys) ≡ filter test xs ++ filter test ys
 filter-append test [] ys = refl
 filter-append test (x ∷ xs) ys = elim (test x) as (λ b. cond b (x ∷ filter test (xs ++ ys)) (filter test (xs ++ ys)) ≡ cond b (x ∷ filter test xs) (filter test xs) ++ filter test ys) [
@@ -51,13 +52,14 @@ filter-append test (x ∷ xs) ys = elim (test x) as (λ b. cond b (x ∷ filter 
   | false ↦ filter-append test xs ys
 ]
 
+-- a filter keeps the whole list if each element passes
 all-pass : (test : Place → Bool) (xs : List Place) → ((k : ℕ) → k < length xs → test (get_or xs k no_place) ≡ true) → filter test xs ≡ xs
 all-pass test [] each = refl
 all-pass test (x ∷ xs) each =
     cond-true (test x) (x ∷ filter test xs) (filter test xs) (each 0 (omega arith))
     ∙ ap (λ (ys : List Place). x ∷ ys) (all-pass test xs (λ k h. each (suc k) (omega (arith, h))))
 
--- no unit is below a floor of 0
+-- if all floors are 0, no spot is below its floor
 above-none : (above : List ℕ) (spots : List Spot) → ((r : ℕ) → r < length above → get_or above r 0 ≡ 0) → is_kept_above above spots ≡ true
 above-none [] spots none = refl
 above-none (floor ∷ above) [] none = refl
@@ -66,9 +68,11 @@ above-none (floor ∷ above) (spot ∷ spots) none =
     and_from (nat_le floor spot.fragment) (is_kept_above above spots) (le-leb floor spot.fragment (omega (arith, here)))
     (above-none above spots (λ r h. none (suc r) (omega (arith, h))))
 
+-- if no rendition has a floor above 0, all places are kept
 all-kept : (above : List ℕ) (xs : List Place) → ((r : ℕ) → r < length above → get_or above r 0 ≡ 0) → filter (is_kept above) xs ≡ xs
 all-kept above xs none = all-pass (is_kept above) xs (λ k h. above-none above (get_or xs k no_place).spots none)
 
+-- if each lane of one channel is finished exactly if the other's is, all of the one are finished exactly if all of the other are
 finished-alike : (xs ys : List Lane) → length ys ≡ length xs → ((r : ℕ) (l m : Lane) → slice_get xs r ≡ Some l → slice_get ys r ≡ Some m → m.finished ≡ l.finished)
     → list_all is_finished ys ≡ list_all is_finished xs
 finished-alike [] [] count each = refl
@@ -86,15 +90,19 @@ from-itself (spot ∷ spots) = (record { fragment = omega arith; outs = omega ar
 -- ---- the kept places are some before a kept one, and those from there on
 
 module _ (a : State) (state : IsState a) (k : ℕ) (p : Place) (at : slice_get (places a) k ≡ Some p) (kept : is_kept (floors a) p ≡ true) where
+  -- the kept places before place k
   abbrev before : List Place
   before = filter (is_kept (floors a)) (take k (places a))
 
+  -- all kept places
   abbrev old : List Place
   old = kept_places a
 
+  -- place k is one of the common places
   inside : k < length (places a)
   inside = slice_get_within (places a) k p at
 
+  -- no unit of a place from number k on is trimmed
   later-pass : (j : ℕ) → j < length (drop k (places a)) → is_kept (floors a) (get_or (drop k (places a)) j no_place) ≡ true
   later-pass j h =
       let left = length-drop k (places a) in
@@ -102,15 +110,18 @@ module _ (a : State) (state : IsState a) (k : ℕ) (p : Place) (at : slice_get (
       ap (is_kept (floors a)) (get_or-drop k (places a) j no_place)
       ∙ kept-goes-on a state k (k + j) p (get_or (places a) (k + j) no_place) (omega arith) at there kept
 
+  -- the kept places are those before place k, and all places from there on
   split : old ≡ before ++ drop k (places a)
   split =
       ap (filter (is_kept (floors a))) (sym (take-append-drop k (places a)))
       ∙ filter-append (is_kept (floors a)) (take k (places a)) (drop k (places a))
       ∙ ap (λ (zs : List Place). before ++ zs) (all-pass (is_kept (floors a)) (drop k (places a)) later-pass)
 
+  -- without those before place k, the kept places are all places from there on
   from-there : drop (length before) old ≡ drop k (places a)
   from-there = ap (drop (length before)) split ∙ drop-append_seam before (drop k (places a))
 
+  -- there is a kept place after those before place k
   here : length before < length old
   here =
       let some = inside in
@@ -119,15 +130,19 @@ module _ (a : State) (state : IsState a) (k : ℕ) (p : Place) (at : slice_get (
       let same = ap length from-there in
       omega (arith, some, left, most, same)
 
+  -- the kept places are in time order
   in-order : AreOrdered (length (sources a)) old
   in-order = filter-ordered (length (sources a)) (is_kept (floors a)) (places a) (ordered a state)
 
+  -- the kept places have rising times
   rise : Rise old
   rise i j less h = (in-order.pairs i j no_place less h).after.rises
 
+  -- each kept place has as many spots as place k
   counts : (j : ℕ) → j < length old → length (get_or old j no_place).spots ≡ length p.spots
   counts j h = (in-order.each j no_place h).place.count ∙ sym (floors-count a) ∙ sym (spots-count a state k p at)
 
+  -- after the kept places before it, the next kept place is place k
   same-place : get_or old (length before) no_place ≡ p
   same-place =
       let first : length before + 0 ≡ length before = omega arith in
@@ -141,6 +156,7 @@ module _ (a : State) (state : IsState a) (k : ℕ) (p : Place) (at : slice_get (
 
   -- ---- the plans of a programme from there on
 
+  -- no kept place from place k on has a spot before it
   row : AreInRow (places a) → (j : ℕ) → length before ≤ j → j < length old → AreSpotsFrom p.spots (get_or old j no_place).spots
   row in_row j up h =
       let i : ℕ = j - length before in
@@ -164,12 +180,15 @@ module _ (a : State) (state : IsState a) (k : ℕ) (p : Place) (at : slice_get (
 
   module _ (in_row : AreInRow (places a)) (goal : Goal) (start stop : ℕ) (t : Table) (from : time_of p ≤ start) (order : start < stop)
       (is : IsProgrammeTable goal old start stop t) where
+    -- place k is at or before the programme's start
     begins-late : time_of (get_or old (length before) no_place) ≤ start
     begins-late = let same = ap time_of same-place in omega (arith, from, same)
 
+    -- the programme's table has as many renditions as place k has spots
     all-counts : t.renditions ≡ length p.spots
     all-counts = table-renditions p.spots old (length before) rise here counts start begins-late stop order goal t is
 
+    -- the programme's table has a rendition
     has-renditions : 0 < t.renditions
     has-renditions =
         let count = all-counts in
@@ -177,12 +196,15 @@ module _ (a : State) (state : IsState a) (k : ℕ) (p : Place) (at : slice_get (
         let long = spots-count a state k p at in
         omega (arith, count, some, long, floors-count a)
 
+    -- the programme's table has a place
     has-places : 0 < length t.places
     has-places = table-some p.spots old (length before) rise here counts start begins-late stop order goal t is
 
+    -- no spot of the programme's table is before place k
     all-after : (q : ℕ) → q < length t.places → AreSpotsFrom p.spots (place_at t.places q)
     all-after = table-after p.spots old (length before) rise here counts start begins-late stop order (row in_row) goal t is
 
+    -- the programme's table has the same plans when its spots are counted from place k
     plans-stay : HasSamePlans t (table_since p.spots t)
     plans-stay = same_plans p.spots t has-renditions all-counts all-after
 
@@ -190,13 +212,16 @@ module _ (a : State) (state : IsState a) (k : ℕ) (p : Place) (at : slice_get (
 
   module _ (b : State) (is : places b ≡ map (place_since p.spots) (drop k (places a))) (none : (r : ℕ) → r < length (floors b) → get_or (floors b) r 0 ≡ 0)
       (over : list_all is_finished (channel b).lanes ≡ list_all is_finished (channel a).lanes) where
+    -- all places of the second channel are kept: the first channel's from place k on, counted from there
     kept-since : kept_places b ≡ map (place_since p.spots) (drop (length before) old)
     kept-since = all-kept (floors b) (places b) none ∙ is ∙ ap (map (place_since p.spots)) (sym from-there)
 
     module _ (goal : Goal) (start stop : ℕ) (from : time_of p ≤ start) (order : start < stop) where
+      -- place k is at or before the programme's start
       late : time_of (get_or old (length before) no_place) ≤ start
       late = let same = ap time_of same-place in omega (arith, from, same)
 
+      -- a programme of the first channel, counted from place k, is one of the second channel
       on : (found : Result Table ProgrammeFault) → IsProgrammeOf a goal start stop found → IsProgrammeOf b goal start stop (programme_since p.spots found)
       on found is =
           let finished : Bool = list_all is_finished (channel a).lanes in
@@ -204,6 +229,7 @@ module _ (a : State) (state : IsState a) (k : ℕ) (p : Place) (at : slice_get (
           (subst (λ (b : Bool). IsProgramme goal (map (place_since p.spots) (drop (length before) old)) b start stop (programme_since p.spots found)) (sym over)
           (programme-on p.spots old (length before) rise here counts start late stop order goal finished found is))
 
+      -- each programme of the second channel is one of the first, counted from place k
       back : (found : Result Table ProgrammeFault) → IsProgrammeOf b goal start stop found
           → (earlier : Result Table ProgrammeFault) × IsProgrammeOf a goal start stop earlier × (found ≡ programme_since p.spots earlier)
       back found is =
@@ -212,6 +238,7 @@ module _ (a : State) (state : IsState a) (k : ℕ) (p : Place) (at : slice_get (
           (subst (λ (b : Bool). IsProgramme goal (map (place_since p.spots) (drop (length before) old)) b start stop found) over
           (subst (λ (ps : List Place). IsProgramme goal ps (list_all is_finished (channel b).lanes) start stop found) kept-since is))
 
+    -- the second channel refuses a programme that begins before place k as before the recording
     refused : (goal : Goal) (start stop : ℕ) → start < time_of p → IsProgrammeOf b goal start stop (Err BeforeRecording)
     refused goal start stop early =
         let same = ap time_of same-place in
@@ -220,6 +247,7 @@ module _ (a : State) (state : IsState a) (k : ℕ) (p : Place) (at : slice_get (
 
 -- ---- a renewed channel
 
+-- no unit of a channel that continues another one at a cut is trimmed
 no_floors : (a b : State) (cut : LineCut) → IsContinued a b cut → IsState a → (r : ℕ) → r < length (floors b) → get_or (floors b) r 0 ≡ 0
 no_floors a b cut on state r h =
     let within : r < length (channel b).lanes = omega (arith, h, length-map (channel b).lanes floor_of) in
@@ -227,9 +255,11 @@ no_floors a b cut on state r h =
     let l = some_at (channel a).lanes r (omega (arith, within, same_lanes a b cut on state)) in
     get_or_from_slice_get (floors b) r (m.0).floor 0 (at_map floor_of (channel b).lanes r m.0 m.1) ∙ (on.lanes r l.0 m.0 l.1 m.1).floor
 
+-- all renditions of such a channel are finished exactly if all of the other one are
 over_alike : (a b : State) (cut : LineCut) → IsContinued a b cut → IsState a → list_all is_finished (channel b).lanes ≡ list_all is_finished (channel a).lanes
 over_alike a b cut on state = finished-alike (channel a).lanes (channel b).lanes (same_lanes a b cut on state) (λ r l m at there. (on.lanes r l m at there).finished)
 
+-- a renewed channel keeps the recorded rendition's init section and its units from the cut on
 held_alike : (a b : State) (renews : Renews a b) → IsState a → (r : ℕ) (l m : Lane) (x : RecordingData) → slice_get (channel a).lanes r ≡ Some l
     → slice_get (channel b).lanes r ≡ Some m → recording_of a r ≡ Some x → held_bytes b r ≡ held_by (Some x) (cut_unit (renews.cut).place r)
 held_alike a b renews state r l m x at there found =
@@ -238,6 +268,7 @@ held_alike a b renews state r l m x at there found =
     at_or b.bytes r no_bytes g.0 g.1 ∙ held_of a b renews state r l g.0 at g.1 ∙ ap (λ (o : Option RecordingData). held_by o (cut_unit (renews.cut).place r)) found
 
 module _ (from_place : PlacesFromAPlaceAgree) (in_row : PlacesNeverGoBack) (from_cut : LineFromCutAgrees) where
+  -- a programme that begins at the cut or later has the same table as in the old channel, counted from the cut, or the same refusal
   pub programmes_agree : RenewedProgrammesAgree
   programmes_agree a b renews state goal start stop from order =
       let cut = renews.cut in
@@ -250,6 +281,7 @@ module _ (from_place : PlacesFromAPlaceAgree) (in_row : PlacesNeverGoBack) (from
         no_other = back a state here.0 cut.place here.1 (continued.is_cut).kept b here.2 none over goal start stop from order;
       }
 
+  -- the table of such a programme has the same plans as in the old channel, at the same costs
   pub plans_agree : RenewedPlansAgree
   plans_agree a b renews state goal start stop t from order is =
       let cut = renews.cut in
@@ -257,6 +289,7 @@ module _ (from_place : PlacesFromAPlaceAgree) (in_row : PlacesNeverGoBack) (from
       let here = places_from_cut a b cut continued state from_place in_row from_cut in
       plans-stay a state here.0 cut.place here.1 (continued.is_cut).kept (in_row (sources a) (states_are_timed a state)) goal start stop t from order is
 
+  -- in each rendition a plan of such a programme has the same playlist and the same bytes as in the old channel
   pub lists_agree : RenewedCatchUpListsAreEqual
   lists_agree a b renews state goal start stop t from order is plan is_plan r x y found also =
       let cut = renews.cut in
@@ -289,6 +322,7 @@ module _ (from_place : PlacesFromAPlaceAgree) (in_row : PlacesNeverGoBack) (from
             (whole_y.floor ∙ lane.floor) (new.head ∙ ap (λ (h : HeldBytes). h.head) held) (whole_y.units ∙ ap (λ (h : HeldBytes). h.units) held);
       }
 
+  -- a programme that begins before the cut is refused as before the recording
   pub earlier_refused : EarlierProgrammesAreRefused
   earlier_refused a b renews state goal start stop early =
       let cut = renews.cut in

@@ -27,6 +27,7 @@ use Rattle.hls_renewal.proofs.CutSearch.{removed_segments, segments}
 
 -- ---- what events remove
 
+-- the number of removed segments after an event, if it was n before
 abbrev removed_by : Event → ℕ → ℕ
 removed_by (Begin r init bytes) n = n
 removed_by (Accept r f bytes) n = n
@@ -34,10 +35,12 @@ removed_by (Finish r) n = n
 removed_by (Slide count) n = n + count
 removed_by (Trim r floor) n = n
 
+-- the number of removed segments after a list of events, if it was n before
 abbrev removed_run : List (ℕ × Event) → ℕ → ℕ
 removed_run [] n = n
 removed_run (e ∷ es) n = removed_run es (removed_by e.1 n)
 
+-- an event of the log removes as many segments as `removed_by` says
 one_removal : (ch : Channel) (e : Event) → (channel_after (logged_event e) ch).removed ≡ removed_by e ch.removed
 one_removal ch (Begin r init bytes) = refl
 one_removal ch (Accept r f bytes) = refl
@@ -45,6 +48,7 @@ one_removal ch (Finish r) = refl
 one_removal ch (Slide count) = refl
 one_removal ch (Trim r floor) = refl
 
+-- new events remove as many segments as `removed_run` says
 pub all_removals : (s : State) (es : List (ℕ × Event)) → AreNew s es → (channel (replayed_state s es)).removed ≡ removed_run es (channel s).removed
 all_removals s [] new = refl
 all_removals s (e ∷ es) new =
@@ -55,29 +59,35 @@ all_removals s (e ∷ es) new =
 
 -- ---- the renditions remove nothing, the slide all
 
+-- the segments that two lists of events remove, one after the other
 removed_append : (xs ys : List (ℕ × Event)) (n : ℕ) → removed_run (xs ++ ys) n ≡ removed_run ys (removed_run xs n)
 removed_append [] ys n = refl
 removed_append (e ∷ xs) ys n = removed_append xs ys (removed_by e.1 n)
 
+-- the event of a unit removes no segment if those after it remove none
 by_unit : (r : ℕ) (f : Option Facts) (unit : Option (List ℕ)) (more : List (ℕ × Event)) (n : ℕ) → ((k : ℕ) → removed_run more k ≡ k) → removed_run (with_unit r f unit more) n ≡ n
 by_unit r None unit more n rest = refl
 by_unit r (Some f) None more n rest = refl
 by_unit r (Some f) (Some unit) more n rest = rest n
 
+-- the events of a recording's units remove no segment
 by_units : (r : ℕ) (rec : RecordingData) (from count n : ℕ) → removed_run (units_from r rec from count) n ≡ n
 by_units r rec from zero n = refl
 by_units r rec from (suc count) n =
     by_unit r (slice_get rec.facts from) (unit_at rec from) (units_from r rec (suc from) count) n (λ k. by_units r rec (suc from) count k)
 
+-- the init section and the units of a rendition remove no segment
 by_media : (r from : ℕ) (rec : Option RecordingData) (n : ℕ) → removed_run (media_from r rec from) n ≡ n
 by_media r from None n = refl
 by_media r from (Some rec) n = by_units r rec from (length rec.facts - from) n
 
+-- the end of a rendition removes no segment
 by_end : (r : ℕ) (finished : Option Bool) (n : ℕ) → removed_run (end_of r finished) n ≡ n
 by_end r None n = refl
 by_end r (Some true) n = refl
 by_end r (Some false) n = refl
 
+-- the events of the renditions remove no segment
 pub by_renditions : (a : State) (r : ℕ) (spots : List Spot) (n : ℕ) → removed_run (renditions_from a r spots) n ≡ n
 by_renditions a r [] n = refl
 by_renditions a r (spot ∷ spots) n =
@@ -88,10 +98,12 @@ by_renditions a r (spot ∷ spots) n =
     ∙ by_end r (finished_at a r) n)
     ∙ by_renditions a (suc r) spots n
 
+-- a slide by k segments removes k
 by_slide : (k n : ℕ) → removed_run (slide_by k) n ≡ n + k
 by_slide zero n = omega arith
 by_slide (suc k) n = refl
 
+-- before the events of a renewal, no segment is removed
 pub none_removed : (a : State) (cut : LineCut) → (channel (renewal_start a cut)).removed ≡ 0
 unfolding channel_from
 none_removed a cut = refl
@@ -102,6 +114,7 @@ bool_cases : (b : Bool) → (b ≡ true) ⊎ (b ≡ false)
 bool_cases true = inl refl
 bool_cases false = inr refl
 
+-- the cut at the front follows as many segments as the line has removed
 front_removed : (s : State) (o : Option Place) (c : LineCut) → cut_at_front (floors s) (line s) o ≡ Some c → c.segments ≡ (line s).removed
 front_removed s None c found = absurd (cc)
 front_removed s (Some p) c found =
@@ -116,6 +129,7 @@ front_removed s (Some p) c found =
           absurd (cc)
     ]
 
+-- a cut that a search finds follows at most `bound` segments, if the segments searched and the other cut do
 removed_in : (above : List ℕ) (n marks bound : ℕ) (rest : List LiveSegment) (other : Option LineCut) (c : LineCut) → (other ≡ Some c → c.segments ≤ bound)
     → n + length rest ≤ bound → cut_in above n marks rest other ≡ Some c → c.segments ≤ bound
 removed_in above n marks bound [] other c last few found = last found
@@ -133,6 +147,7 @@ removed_in above n marks bound (segment ∷ rest) other c last few found =
           (sym (ap (λ (b : Bool). if b then Some made else cut_in above (suc n) more rest other) not) ∙ found)
     ]
 
+-- the first cut follows at most as many segments as the line has removed
 pub cut_removed : (s : State) (c : LineCut) → first_cut s ≡ Some c → c.segments ≤ (line s).removed
 cut_removed s c found =
     let few = length-take (line s).removed (segments s) in
@@ -142,6 +157,7 @@ cut_removed s c found =
 
 -- ---- so the removed segments are as many as before
 
+-- the old channel has removed the segments before the cut, and as many after it as the renewed one has
 pub removed_alike : (a b : State) (renews : Renews a b) → (line a).removed ≡ (renews.cut).segments + (line b).removed
 removed_alike a b renews =
     let cut = renews.cut in

@@ -38,10 +38,12 @@ use Rattle.hls_renewal.proofs.RenewedLanes.{IsLaneFrom, config_after_all, renewe
 
 -- ---- a state's line has ended exactly if its renditions have
 
+-- if a state's line begins its open segment at the closing place, all its renditions have ended
 over_by : (s : State) (o : Option SegmentStart) → IsState s → (whole s).line.segment_start ≡ o → is_closing o ≡ true → list_all has_ended (sources s) ≡ true
 over_by s None state is over = absurd (cc)
 over_by s (Some o) state is over = ((closed-reached s state).segment_start o is).over over
 
+-- the line of a state has ended exactly if all its renditions have
 pub line_has_ended : (s : State) → IsState s → has_line_ended (line s) ≡ list_all has_ended (sources s)
 line_has_ended s state = elim (cases_Bool (list_all has_ended (sources s))) [
   | inl all ↦ line_ends (line_goal_of s.config) (sources s) (line s).removed all ∙ sym all
@@ -53,9 +55,11 @@ line_has_ended s state = elim (cases_Bool (list_all has_ended (sources s))) [
 
 -- ---- a place that isn't the closing one is at units
 
+-- a place is the closing one, or its spots are at units that are there
 AreAtUnitsIfOpen : List Source → Place → Type 0
 AreAtUnitsIfOpen xs p = p.closing ≡ false → AreAtUnits xs p.spots
 
+-- each common place is the closing one, or has its spots at units that are there
 all_at_units : (xs : List Source) → All (AreAtUnitsIfOpen xs) (places_of xs)
 unfolding AreAtUnitsIfOpen
 all_at_units xs =
@@ -74,6 +78,7 @@ all_at_units xs =
           (subst (λ (l : List Place). All (AreAtUnitsIfOpen xs) l) (sym (append-nil found)) each)
     ]
 
+-- a common place that isn't the closing one has its spots at units that are there
 place_at_units : (xs : List Source) (k : ℕ) (p : Place) → slice_get (places_of xs) k ≡ Some p → p.closing ≡ false → AreAtUnits xs p.spots
 unfolding AreAtUnitsIfOpen
 place_at_units xs k p at unended =
@@ -83,6 +88,7 @@ place_at_units xs k p at unended =
 
 -- ---- renditions from such a place have ended if they had
 
+-- if each spot of a cut is at a unit that is there, the renditions from the cut on have ended exactly if they had before
 ended_since : (cut : List Spot) (xs : List Source) → length cut ≡ length xs → ((r : ℕ) → r < length xs → (spot_in cut r).fragment < length (source_at xs r).facts)
     → list_all has_ended (sources_since cut xs) ≡ list_all has_ended xs
 ended_since [] [] long before = refl
@@ -98,9 +104,11 @@ ended_since (c ∷ cut) (x ∷ xs) long before =
 
 -- ---- the renditions of a renewed channel
 
+-- no end of a segment precedes the cut
 abbrev pub AreFromCut : Place → List LiveSegment → Type 0
 AreFromCut cut segments = (k : ℕ) (x : LiveSegment) → slice_get segments k ≡ Some x → IsPlaceFrom cut x.from × IsPlaceFrom cut x.to
 
+-- two lists of renditions are equal if they have the same length and equal elements
 same_sources : (xs ys : List Source) → length xs ≡ length ys → ((r : ℕ) → r < length xs → source_at xs r ≡ source_at ys r) → xs ≡ ys
 same_sources [] [] long each = refl
 same_sources [] (y ∷ ys) long each = absurd (omega (arith, long))
@@ -109,6 +117,7 @@ same_sources (x ∷ xs) (y ∷ ys) long each =
     ap (λ (z : Source). z ∷ xs) (each 0 (omega arith))
     ∙ ap (λ (zs : List Source). y ∷ zs) (same_sources xs ys (omega (arith, long)) (λ r h. each (suc r) (omega (arith, h))))
 
+-- a rendition whose lane is another one from the cut's unit on is that rendition from the cut on
 source_from : (x y : Source) (l m : Lane) (n tolerance : ℕ) (cut : Spot) → IsOf x l tolerance → IsOf y m tolerance → IsLaneFrom n l m → cut.fragment ≡ n → y ≡ source_since cut x
 source_from x y l m n tolerance cut of_l of_m from number =
     let facts : y.facts ≡ drop cut.fragment x.facts =
@@ -117,13 +126,13 @@ source_from x y l m n tolerance cut of_l of_m from number =
     let over : y.finished ≡ x.finished = of_m.finished ∙ from.finished ∙ sym of_l.finished in
     λ k. record { facts = facts k; tolerance = tolerances k; finished = over k }
 
--- a channel continues another one at a cut: its renditions are those from the cut on
+-- channel b continues channel a at a cut: with the same configuration but for its base, and each rendition from the cut on
 pub record IsContinued (a b : State) (cut : LineCut) : Type 0 where
   pub is_cut : IsLineCut a cut
   pub config : without_base b.config ≡ without_base a.config
   pub lanes : (r : ℕ) (l m : Lane) → slice_get (channel a).lanes r ≡ Some l → slice_get (channel b).lanes r ≡ Some m → IsLaneFrom (cut_unit cut.place r) l m
 
--- a renewed one does
+-- a renewed channel continues the old one at the cut
 pub renewed : (a b : State) (renews : Renews a b) → IsState a → IsContinued a b (renews.cut)
 renewed a b renews state = record {
   is_cut = is_line_cut a (renews.cut) state renews.first;
@@ -132,14 +141,17 @@ renewed a b renews state = record {
 }
 
 module _ (a b : State) (cut : LineCut) (on : IsContinued a b cut) (state : IsState a) where
+  -- the cut has a spot for each rendition
   pub spots_long : length (cut.place).spots ≡ length (sources a)
   spots_long =
       let stands = front-stands (line_goal_of a.config) (places a) cut.segments cut.place ((on.is_cut).is_cut).front in
       spots-count a state stands.number cut.place stands.there ∙ floors-count a
 
+  -- both channels have the same number of renditions
   pub same_lanes : length (channel b).lanes ≡ length (channel a).lanes
   same_lanes = lanes_count b.config b.log ∙ ap (λ (c : ConfigData). length c.renditions) on.config ∙ sym (lanes_count a.config a.log)
 
+  -- the renditions of the second channel are those of the first from the cut on
   pub renewed_sources : sources b ≡ sources_since (cut.place).spots (sources a)
   renewed_sources =
       let spots = (cut.place).spots in
@@ -155,7 +167,7 @@ module _ (a b : State) (cut : LineCut) (on : IsContinued a b cut) (state : IsSta
       (source_of a r l.0 l.1) of_m (on.lanes r l.0 m.0 l.1 m.1) refl
       ∙ sym (since_at spots (sources a) r spots_long inside))
 
-  -- its line has ended if the old one has
+  -- the line of the second channel has ended exactly if that of the first has
   pub ended_alike : IsState b → has_line_ended (line b) ≡ has_line_ended (line a)
   ended_alike state_b =
       let spots = (cut.place).spots in
@@ -164,7 +176,7 @@ module _ (a b : State) (cut : LineCut) (on : IsContinued a b cut) (state : IsSta
       line_has_ended b state_b ∙ ap (λ (xs : List Source). list_all has_ended xs) renewed_sources
       ∙ ended_since spots (sources a) spots_long units.each ∙ sym (line_has_ended a state)
 
-  -- its places are the old ones from the cut on, and its segments too, each from the cut on
+  -- the places of the second channel are those of the first from the cut on, and so are its segments, each counted from the cut
   pub places_from_cut : PlacesFromAPlaceAgree → PlacesNeverGoBack → LineFromCutAgrees
       → (k : ℕ) × (slice_get (places a) k ≡ Some cut.place) × (places b ≡ map (place_since (cut.place).spots) (drop k (places a)))
       × (segments_over (line_goal_of b.config) (sources b) ≡ segments_since (cut.place).spots (drop cut.segments (segments_over (line_goal_of a.config) (sources a))))
@@ -185,7 +197,7 @@ module _ (a b : State) (cut : LineCut) (on : IsContinued a b cut) (state : IsSta
         here.after_cut,
       )
 
--- the segments from a cut on are as many as there were
+-- there are as many segments when they are counted from a cut
 pub since_count : (cut : List Spot) (segments : List LiveSegment) → length (segments_since cut segments) ≡ length segments
 since_count cut [] = refl
 since_count cut (s ∷ segments) = ap suc (length-map segments (segment_since cut))

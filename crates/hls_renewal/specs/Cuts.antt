@@ -13,6 +13,7 @@ use Rattle.hls_core_laws.specs.Line.{line, line_goal_of}
 use Rattle.hls_playlists_laws.specs.JoinedLists.{is_first_marked}
 use Rattle.hls_renewal.specs.declared.line_cut.LineCut.{LineCut}
 
+-- the cut after n segments, `marks` of them with a mark, at this place; `marked` says whether the segment that begins there has a mark
 abbrev pub cut_at : ℕ → ℕ → Bool → Place → LineCut
 cut_at n marks marked p = record { segments = n; marks = marks; marked = marked; place = p }
 
@@ -25,6 +26,7 @@ abbrev pub cut_at_front : List ℕ → Live → Option Place → Option LineCut
 cut_at_front above l None = None
 cut_at_front above l (Some p) = if may_begin_at above p then Some (cut_at l.removed l.breaks (is_first_marked (segments_of l)) p) else None
 
+-- the cut at the front of a state's line, if a log may begin there
 abbrev pub front_cut : State → Option LineCut
 front_cut s = cut_at_front (floors s) (line s) (front_of (line s))
 
@@ -39,7 +41,7 @@ cut_in above n marks (segment ∷ segments) other =
 abbrev pub first_cut : State → Option LineCut
 first_cut s = cut_in (floors s) 0 0 (take (line s).removed (segments_over (line_goal_of s.config) (sources s))) (front_cut s)
 
--- a cut of a state's line, and what precedes it
+-- a cut of a state's line with no trimmed unit after it, and the numbers of segments and marks that precede it
 pub record IsLineCut (s : State) (cut : LineCut) : Type 0 where
   pub is_cut : IsCutOf (line_goal_of s.config) (sources s) cut.segments cut.place
   pub marks : cut.marks ≡ marks_in cut.segments (segments_over (line_goal_of s.config) (sources s))

@@ -46,20 +46,20 @@ abbrev pub RenewedProgrammesAgree : Type 0
 RenewedProgrammesAgree = (a b : State) (renews : Renews a b) → IsState a → (goal : Goal) (start stop : ℕ) →
     time_of (renews.cut).place ≤ start → start < stop → HasSameProgramme ((renews.cut).place).spots a b goal start stop
 
--- the table has the same plans, at the same costs
+-- the table of such a programme has the same plans, at the same costs
 abbrev pub RenewedPlansAgree : Type 0
 RenewedPlansAgree = (a b : State) (renews : Renews a b) → IsState a → (goal : Goal) (start stop : ℕ) (t : Table) →
     time_of (renews.cut).place ≤ start → start < stop → IsProgrammeTable goal (kept_places a) start stop t →
     HasSamePlans t (table_since ((renews.cut).place).spots t)
 
--- in each rendition a plan's playlist is equal, and so are the bytes that it names
+-- in each rendition a plan of such a programme has the same playlist, and the bytes that it names are the same
 abbrev pub RenewedCatchUpListsAreEqual : Type 0
 RenewedCatchUpListsAreEqual = (a b : State) (renews : Renews a b) → IsState a → (goal : Goal) (start stop : ℕ) (t : Table) →
     time_of (renews.cut).place ≤ start → start < stop → IsProgrammeTable goal (kept_places a) start stop t →
     (plan : List ℕ) → IsPlan t plan → (r : ℕ) (x y : RecordingData) → recording_of a r ≡ Some x → recording_of b r ≡ Some y →
     HasSameList a b t (table_since ((renews.cut).place).spots t) plan r x y
 
--- a programme that begins before the cut is before the recording
+-- a renewed channel refuses a programme that begins before the cut as before the recording
 abbrev pub EarlierProgrammesAreRefused : Type 0
 EarlierProgrammesAreRefused = (a b : State) (renews : Renews a b) → IsState a → (goal : Goal) (start stop : ℕ) →
     start < time_of (renews.cut).place → IsProgrammeOf b goal start stop (Err BeforeRecording)
@@ -69,7 +69,7 @@ abbrev pub RenewedListsAreEqual : Type 0
 RenewedListsAreEqual = (a b : State) (renews : Renews a b) → IsState a → (r : ℕ) → 0 < length (segments_of (line a)) →
     (based_list_of b r ≡ based_list_of a r) × (path_list_of b r ≡ path_list_of a r)
 
--- so they are valid as later ones of each that was sent before
+-- each playlist of a renewed channel is valid as a later one of each that the old channel sent before the renewal
 abbrev pub RenewedListsContinue : Type 0
 RenewedListsContinue = (before a b : State) (r : ℕ) (earlier : Playlist) → IsState before → Follows before a → (renews : Renews a b) →
     0 < length (segments_of (line a)) →
@@ -88,7 +88,7 @@ pub record NeverGoesBack (a b : State) : Type 0 where
   pub run : b.config.base.run ≡ a.config.base.run
   pub version : a.config.base.version + length a.log ≤ b.config.base.version + length b.log
 
--- neither in a state that follows, as one that a journal restores does, nor in a renewed channel
+-- run and version never go back: neither in a state that follows another one, such as one that a journal restores, nor in a renewed channel
 abbrev pub RunsAndVersionsNeverGoBack : Type 0
 RunsAndVersionsNeverGoBack = ((a b : State) → Follows a b → NeverGoesBack a b) × ((a b : State) → Renews a b → IsState a → NeverGoesBack a b)
 

@@ -1,3 +1,4 @@
+-- After one more record, the number is the highest that the records so far name.
 use Rattle.std.proofs.Common.{◌∙◌, refl, ap}
 use Rattle.std.specs.Prelude.{max}
 use Rattle.hls_journal.specs.Asides.{ids_in}

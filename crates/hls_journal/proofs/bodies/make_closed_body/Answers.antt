@@ -1,3 +1,4 @@
+-- The body of kind 8 is of no event: it says that the journal was closed.
 use Rattle.std.proofs.Common.{arith, ℕ, Vec, Global}
 use Rattle.std.proofs.lemmas.Result.{IfOk-weaker}
 use Rattle.hls_journal.proofs.Started.{aside_alone}

@@ -1,3 +1,4 @@
+-- The body that is made is that of the event. The cases are the kinds of events: begin, accept, finish, slide and trim.
 use Rattle.std.proofs.Common.{◌∙◌, ◌++◌, ℕ, List, ap, subst, arith, Vec, Global}
 use Rattle.std.proofs.lemmas.Result.{IfOk-weaker}
 use Rattle.hls_journal.specs.Bodies.{IsUnitBody}

@@ -1,3 +1,4 @@
+-- The body of kind 6 is of no event: it says which ids may have been given out.
 use Rattle.std.proofs.Common.{arith, ℕ, Vec, Global}
 use Rattle.std.proofs.lemmas.Result.{IfOk-weaker}
 use Rattle.byteorder.specs.Endian.{little_bytes}

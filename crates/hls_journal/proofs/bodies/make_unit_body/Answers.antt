@@ -1,3 +1,4 @@
+-- The unit's length, its checksum and its head, appended after the start of a body, are the body of the unit's record.
 use Rattle.std.proofs.Common.{◌∙◌, ◌++◌, take, refl, ap, arith}
 use Rattle.std.specs.Int.{w64, to_le_bytes}
 use Rattle.hls_journal.proofs.Started.{unit_body_of}

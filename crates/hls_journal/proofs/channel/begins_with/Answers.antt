@@ -1,3 +1,4 @@
+-- The body has at least 188 bytes, so its header can be taken from it.
 use Rattle.std.proofs.Common.{sym, arith}
 use Rattle.std.proofs.lemmas.List.{length-take-le}
 use Rattle.hls_journal.proofs.channel.begins_with.Goals as goal

@@ -1,3 +1,4 @@
+-- Each part is read at its place, so the base that is made of them is the one in the text.
 use Rattle.std.proofs.Common.{◌∙◌, ap}
 use Rattle.hls_core.specs.Bases.{base_from}
 use Rattle.hls_journal.specs.Channels.{counts_in}

@@ -1,3 +1,4 @@
+-- After the loop all 16 counts are read, one from each eight bytes.
 use Rattle.std.proofs.Common.{◌≡◌, arith}
 use Rattle.hls_journal.proofs.ReadBack.{whole_counts}
 use Rattle.hls_journal.proofs.channel.parse_counts.Goals as goal

@@ -1,3 +1,4 @@
+-- Before each round, the first n of the 16 counts are those in the text.
 use Rattle.std.proofs.Common.{◌≡◌, length, take}
 use Rattle.hls_journal.specs.Channels.{counts_in}
 use Rattle.hls_journal.proofs.channel.parse_counts.Given as goal

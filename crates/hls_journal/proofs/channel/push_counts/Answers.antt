@@ -1,3 +1,4 @@
+-- After the loop the counts of all 16 renditions are appended.
 use Rattle.std.proofs.Common.{◌≡◌, ◌∙◌, ◌++◌, ap, arith}
 use Rattle.hls_journal.specs.Channels.{counts_bytes}
 use Rattle.hls_journal.proofs.channel.push_counts.Goals as goal

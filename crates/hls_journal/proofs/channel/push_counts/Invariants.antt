@@ -1,3 +1,4 @@
+-- Before each round, the counts of the renditions so far are appended.
 use Rattle.std.proofs.Common.{◌≡◌, ◌++◌}
 use Rattle.hls_journal.specs.Channels.{counts_bytes}
 use Rattle.hls_journal.proofs.channel.push_counts.Given as goal

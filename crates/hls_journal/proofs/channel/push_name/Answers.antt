@@ -1,3 +1,4 @@
+-- A name, and as many zeros as fill 32 bytes, are the bytes of the name in a record.
 use Rattle.std.proofs.Common.{◌∙◌, ◌-◌, ◌++◌, length, take, ap, arith}
 use Rattle.std.specs.Prelude.{replicate}
 use Rattle.std.proofs.lemmas.List.{take-replicate}

@@ -1,3 +1,4 @@
+-- The parts are appended one after another: the name, the flag, the bandwidth, and the tolerance.
 use Rattle.std.proofs.Common.{◌≡◌, ◌∙◌, [], ◌∷◌, ◌++◌, ap}
 use Rattle.byteorder.specs.Endian.{little_bytes}
 use Rattle.std.specs.Int.{from_bool}

@@ -1,3 +1,4 @@
+-- Each round appends the bytes of one more rendition.
 use Rattle.hls_journal.specs.Channels.{rendition_bytes}
 use Rattle.hls_journal.proofs.Pushed.{one_more_pushed}
 use Rattle.hls_journal.proofs.channel.push_renditions.Goals as goal

@@ -1,3 +1,4 @@
+-- Before each round, the bytes of the renditions so far are appended.
 use Rattle.std.proofs.Common.{◌≡◌, ◌++◌, take}
 use Rattle.std.specs.List.{flat_map}
 use Rattle.hls_journal.specs.Channels.{rendition_bytes}

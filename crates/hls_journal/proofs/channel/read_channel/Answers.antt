@@ -1,3 +1,4 @@
+-- If the header is read and the configurations have the same bytes, the body is that of a channel with this configuration and header.
 use Rattle.std.proofs.Common.{◌∙◌, Option, subst}
 use Rattle.std.specs.Prelude.{MatchOption}
 use Rattle.hls_journal.specs.declared.channel.ChannelHeader.{ChannelHeader}

@@ -1,3 +1,5 @@
+-- A body has the header that is parsed from it if it begins with that header's bytes. Otherwise, or if nothing can have its base,
+-- it has no header.
 use Rattle.std.proofs.Common.{◌≡◌, ◌∙◌, true, false, refl, sym, arith}
 use Rattle.hls_journal.proofs.ReadBack.{no_header, same_header}
 use Rattle.hls_journal.proofs.channel.read_header.Goals as goal

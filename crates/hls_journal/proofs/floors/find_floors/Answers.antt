@@ -1,3 +1,4 @@
+-- All floors begin at 0, and each record raises them. The slice that it is given is the whole list.
 use Rattle.std.proofs.Common.{◌≡◌, ◌∙◌, ℕ, ◌++◌, length, take, drop, get_or, ap, rules}
 use Rattle.std.specs.Prelude.{max, replicate}
 use Rattle.std.proofs.lemmas.List.{get_or-replicate, length-replicate}

@@ -1,3 +1,4 @@
+-- Before each round, the floors of the 256 renditions are the highest that the records so far trim them to.
 use Rattle.hls_journal.proofs.HighestFloors.{AreFloors}
 use Rattle.hls_journal.proofs.floors.find_floors.Given as goal
 

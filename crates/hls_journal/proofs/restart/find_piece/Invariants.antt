@@ -1,3 +1,5 @@
+-- Before each round, the pieces before `low` begin at the offset or before it, and those from `high` on begin after it.
+-- Each round brings `low` and `high` nearer to each other.
 use Rattle.std.proofs.Common.{◌-◌}
 use Rattle.hls_journal.proofs.Pieces.{Halves}
 use Rattle.hls_journal.proofs.restart.find_piece.Given as goal

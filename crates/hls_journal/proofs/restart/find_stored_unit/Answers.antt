@@ -1,3 +1,5 @@
+-- If the last piece that begins at the offset or before it has the unit, that is the stored one. If it hasn't, or no piece begins so early,
+-- the media don't have the unit, provided that their pieces are in order.
 use Rattle.std.proofs.Common.{ap, subst, List, ℕ}
 use Rattle.std.specs.Option.{option_copied}
 use Rattle.std.proofs.lemmas.Result.{IfOk-weaker, IfErr-weaker}

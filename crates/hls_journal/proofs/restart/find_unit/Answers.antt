@@ -1,3 +1,4 @@
+-- A unit whose number isn't below the floor is read from the media, at the end of the recording; a fault there is the record's.
 use Rattle.std.proofs.Common.{◌≤◌, List, ℕ, length, inr, subst, arith}
 use Rattle.std.specs.Option.{option_copied}
 use Rattle.std.proofs.lemmas.Result.{IfOk-weaker, IfErr-weaker}

@@ -1,3 +1,4 @@
+-- If the unit's length is less than its head's or above the limit, nothing can replace the trimmed unit, so the record is wrong.
 use Rattle.std.proofs.Common.{arith, ap, length}
 use Rattle.std.proofs.Common.{length-drop}
 use Rattle.hls_journal.proofs.NoHead.{rest_is}

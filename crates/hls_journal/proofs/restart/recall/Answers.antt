@@ -1,3 +1,4 @@
+-- If the event of a record isn't new in the state, the record leads to no next state.
 use Rattle.std.proofs.lemmas.Result.{IfErr-weaker}
 use Rattle.hls_journal.specs.declared.fault.RecallFault.{RecallFault}
 use Rattle.hls_journal.specs.Recalling.{floors_at}

@@ -1,3 +1,5 @@
+-- A record of a unit is wrong if its rendition hasn't begun. Otherwise it is of the rendition's next unit,
+-- or has the fault for which that unit is unavailable.
 use Rattle.std.proofs.Common.{rules, ◌∙◌, sym, ap}
 use Rattle.std.specs.Option.{option_copied}
 use Rattle.std.proofs.lemmas.Result.{IfOk-weaker, IfErr-weaker}

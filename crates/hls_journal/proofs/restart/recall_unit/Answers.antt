@@ -1,3 +1,4 @@
+-- A record that is too short for one of a unit, or whose unit has no bytes, is wrong. So is one for whose unit no facts can be read.
 use Rattle.std.proofs.Common.{◌≡◌, ◌∙◌, true, false, refl, sym, ap}
 use Rattle.std.specs.Option.{option_copied}
 use Rattle.hls_media_laws.specs.UnitFacts.{facts}

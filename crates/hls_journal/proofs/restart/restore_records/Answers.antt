@@ -1,3 +1,5 @@
+-- Each round restores the state after one more record. If one fails, its number is in the fault.
+-- After the last, the state is the one that all records restore, with the highest floors that they name.
 use Rattle.std.proofs.Common.{◌+◌, ℕ, List, subst, arith}
 use Rattle.std.proofs.lemmas.List.{take_all}
 use Rattle.hls_core_laws.specs.Runs.{first_state}

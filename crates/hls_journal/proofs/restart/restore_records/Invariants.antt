@@ -1,3 +1,4 @@
+-- Before each round, the state is what the records so far restore, and `number` is how many they are.
 use Rattle.std.proofs.Common.{◌≡◌, take}
 use Rattle.hls_core_laws.specs.Runs.{first_state}
 use Rattle.hls_journal_laws.specs.Restored.{Restores}

@@ -1,3 +1,5 @@
+-- The head of a unit ends with the header of an `mdat` that reaches the unit's end; whole boxes before it are passed over.
+-- If a header can't be read, a box doesn't fit, or no bytes are left, the unit has no head.
 use Rattle.std.proofs.Common.{◌∙◌, ◌-◌, length, take, drop, refl, sym, ap, arith}
 use Rattle.std.proofs.lemmas.Bool.{eqb-true, eq-eqb}
 use Rattle.hls_boxes.specs.Boxes.{header_at}

@@ -1,3 +1,4 @@
+-- The zeros so far and those left are always as many as asked for. After the loop none are left.
 use Rattle.std.proofs.Common.{◌≡◌, ◌∙◌, ap, sym, arith, ◌++◌, replicate, refl}
 use Rattle.std.proofs.lemmas.List.{append-nil, take-replicate}
 use Rattle.hls_journal.proofs.Blocks.{block_pushed}

@@ -1,3 +1,4 @@
+-- Before each round, the bytes so far and the zeros that are left are the result. Each round leaves fewer.
 use Rattle.std.proofs.Common.{◌≡◌, ℕ, ◌-◌, ◌≤◌, ◌++◌, replicate}
 use Rattle.hls_journal.proofs.zeros.push_zeros.Given as goal
 

@@ -1,3 +1,4 @@
+-- The state that is restored after a crash is one that the channel had, and has all events whose records survive.
 use Rattle.hls_journal_laws.proofs.Durable.{durable-events-are-restored}
 use Rattle.hls_journal_laws.proofs.laws.durable_events_are_restored.Goals as goal
 

@@ -1,3 +1,5 @@
+-- Each round mixes one more word of the text into the state. After the loop the state is the checksum, once the bytes that make no whole word,
+-- if any, are mixed in.
 use Rattle.std.proofs.Common.{◌∙◌, ap, arith, length, sym, refl, []}
 use Rattle.hls_journal_log.specs.Checksum.{mix, mix_words}
 use Rattle.hls_journal_log.proofs.Checksums.{one_more_word, whole_words, last_word}

@@ -1,3 +1,4 @@
+-- Before each round, the state is that of the number and the text's length, with the words so far mixed in.
 use Rattle.std.proofs.Common.{◌≡◌, length}
 use Rattle.hls_journal_log.specs.Checksum.{mix, mix_words}
 use Rattle.hls_journal_log.proofs.checksum.checksum_of.Given as goal

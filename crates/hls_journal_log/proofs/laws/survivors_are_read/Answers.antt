@@ -1,3 +1,4 @@
+-- Records that survive a crash are read after it, first and in order.
 use Rattle.hls_journal_log.proofs.Crashes.{survivors-are-read}
 use Rattle.hls_journal_log.proofs.laws.survivors_are_read.Goals as goal
 

@@ -1,3 +1,4 @@
+-- The disk is cut to `len` bytes if more follow, and else is left. So it has the first `len` bytes, and after the sync a crash leaves only these.
 use Rattle.std.proofs.Common.{◌≡◌, ◌∙◌, take, ap, sym, arith}
 use Rattle.std.proofs.lemmas.List.{take_all}
 use Rattle.std.proofs.lemmas.Result.{on_ok_weaker}

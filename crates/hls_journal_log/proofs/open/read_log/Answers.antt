@@ -1,3 +1,5 @@
+-- The records of a text can be numbered in 64 bits. If a sync point after the last complete record names a later byte,
+-- synced bytes are damaged.
 use Rattle.std.proofs.Common.{refl, arith}
 use Rattle.hls_journal_log.proofs.Opened.{damaged}
 use Rattle.hls_journal_log.proofs.open.read_log.Goals as goal

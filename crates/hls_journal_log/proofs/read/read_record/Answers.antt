@@ -1,3 +1,4 @@
+-- A text that starts with a complete record consists of that record's bytes and a rest.
 use Rattle.std.proofs.Common.{◌<◌, ℕ, get_or, arith, rules}
 use Rattle.hls_journal_log.specs.Records.{IsRecord}
 use Rattle.hls_journal_log.proofs.Steps.{rebuilt}

@@ -1,3 +1,4 @@
+-- Once another record is read, the text up to its end consists of the records so far, with this one as the last.
 use Rattle.hls_journal_log.proofs.Steps.{read_step_at}
 use Rattle.hls_journal_log.proofs.read.read_records.Goals as goal
 

@@ -1,3 +1,5 @@
+-- Before each round, the text up to `at` consists of the records that were read, and `number` is that of the next one.
+-- Each round comes nearer to the text's end.
 use Rattle.std.proofs.Common.{◌-◌, length}
 use Rattle.hls_journal_log.proofs.Steps.{HasRead}
 use Rattle.hls_journal_log.proofs.read.read_records.Given as goal

@@ -1,3 +1,4 @@
+-- Before each round, no sync point that begins before `at` names a byte after the place. Each round comes nearer to the text's end.
 use Rattle.std.proofs.Common.{◌-◌, length}
 use Rattle.hls_journal_log.proofs.Places.{NoneSoFar}
 use Rattle.hls_journal_log.proofs.sync_point.has_sync_point_beyond.Given as goal

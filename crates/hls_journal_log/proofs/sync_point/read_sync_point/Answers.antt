@@ -1,3 +1,4 @@
+-- Length, mark, number and checksum are read at their places, so a text that passes the tests starts with a sync point.
 use Rattle.std.proofs.Common.{◌≡◌, ◌∙◌, ◌-◌, length, take, drop, arith, rules}
 use Rattle.byteorder.specs.Numbers.{little_from-take}
 use Rattle.hls_journal_log.specs.Records.{body_len_in, checksum, checksum_in}

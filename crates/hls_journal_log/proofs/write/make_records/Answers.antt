@@ -1,3 +1,4 @@
+-- Each round appends the record of one more body, with the next number.
 use Rattle.std.proofs.Common.{◌∙◌, ◌++◌, ap}
 use Rattle.hls_journal_log.specs.Records.{record_bytes}
 use Rattle.hls_journal_log.proofs.Steps.{record_made}

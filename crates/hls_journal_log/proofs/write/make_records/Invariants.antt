@@ -1,3 +1,4 @@
+-- Before each round, the text is the records of the bodies so far, and `number` is that of the next record.
 use Rattle.std.proofs.Common.{◌≡◌, ◌+◌, take}
 use Rattle.hls_journal_log.specs.Records.{log_bytes}
 use Rattle.hls_journal_log.proofs.write.make_records.Given as goal

@@ -1,3 +1,4 @@
+-- The length, the checksum and the body, appended one after another, are the bytes of the record.
 use Rattle.std.proofs.Common.{◌∙◌, ◌++◌, ap}
 use Rattle.std.specs.Int.{w64, to_le_bytes}
 use Rattle.hls_journal_log.proofs.Headers.{record_pushed}

@@ -1,3 +1,4 @@
+-- Each round adds the record of one more log entry, and stays within the batch's end.
 use Rattle.std.proofs.Common.{arith}
 use Rattle.hls_journal_store.proofs.Batches.{batch_more}
 use Rattle.hls_journal_store.proofs.batch.make_batch.Goals as goal

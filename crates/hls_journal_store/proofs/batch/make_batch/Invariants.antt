@@ -1,3 +1,5 @@
+-- Before each round, the batch has the records of the entries from the journal's position up to its own.
+-- Each round comes nearer to the batch's end.
 use Rattle.std.proofs.Common.{◌-◌, ◌≤◌}
 use Rattle.std.specs.Prelude.{max}
 use Rattle.hls_journal_store.specs.Batches.{IsBatch}

@@ -1,3 +1,4 @@
+-- Before each round, no more bytes were read than asked for. Each round leaves fewer to read.
 use Rattle.std.proofs.Common.{◌-◌, ◌≤◌}
 use Rattle.hls_journal_store.proofs.media_read.read_pieces.Given as goal
 

@@ -1,3 +1,4 @@
+-- After a sync point is appended, the log has one more record, which is of no event.
 use Rattle.hls_journal_store.proofs.Followed.{adds_point}
 use Rattle.hls_journal_store.proofs.records.append_point.Goals as goal
 

@@ -1,3 +1,4 @@
+-- Records before the log's end that survive a crash still do after the cut.
 use Rattle.hls_journal_store.proofs.CutBack.{survive_cut}
 use Rattle.hls_journal_store.proofs.records.cut_back.Goals as goal
 

@@ -1,3 +1,4 @@
+-- In the mode `Each` the log has one more sync point, if one was due, and after it the records. After the sync all of these survive any crash.
 use Rattle.hls_journal_store.proofs.Followed.{adds_after, adds_synced, synced_durable}
 use Rattle.hls_journal_store.proofs.records.write_records.Goals as goal
 

@@ -1,3 +1,4 @@
+-- Before each round, at most all records are to be tried. If a unit is missing, the next round tries fewer, but always the synced ones.
 use Rattle.std.proofs.Common.{◌+◌, ◌-◌, ◌≤◌, length}
 use Rattle.hls_journal_store.proofs.restored.restore_prefix.Given as goal
 

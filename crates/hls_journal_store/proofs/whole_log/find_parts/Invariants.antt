@@ -1,3 +1,5 @@
+-- Before each round, the position is where it was at first or after that, and after it once a part was found.
+-- Each round comes nearer to the log's end.
 use Rattle.std.proofs.Common.{◌-◌, ◌<◌, ◌≤◌, length}
 use Rattle.hls_journal_store.proofs.whole_log.find_parts.Given as goal
 

@@ -1,3 +1,4 @@
+-- Before each round, the position is where it was at first or after that, but not beyond the part's end. Each round comes nearer to that end.
 use Rattle.std.proofs.Common.{◌-◌, ◌≤◌}
 use Rattle.std.specs.Prelude.{max}
 use Rattle.hls_journal_store.proofs.whole_log.skip_part.Given as goal

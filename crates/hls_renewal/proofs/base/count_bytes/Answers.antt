@@ -1,3 +1,4 @@
+-- Each round counts the bytes of one more rendition. Once all renditions are counted, the counts are those of the base.
 use Rattle.std.proofs.Common.{◌≡◌, ◌<◌, ℕ, length, arith, refl}
 use Rattle.hls_core_laws.specs.State.{channel}
 use Rattle.hls_renewal.proofs.CutCounts.{all_counted, one_counted}

@@ -1,3 +1,4 @@
+-- The sums don't overflow: the numbers of a base are limited, and so are a cut's segments and marks.
 use Rattle.std.proofs.Common.{arith}
 use Rattle.hls_renewal.proofs.Bits.{bit_small}
 use Rattle.hls_renewal.proofs.LineCuts.{small_cut}

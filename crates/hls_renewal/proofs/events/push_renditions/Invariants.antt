@@ -1,3 +1,4 @@
+-- Before each round, the events so far and those of the remaining renditions are all events to be pushed.
 use Rattle.std.proofs.Common.{◌≡◌, ◌++◌, drop}
 use Rattle.hls_renewal.specs.Renewals.{renditions_from}
 use Rattle.hls_renewal.proofs.events.push_renditions.Given as goal

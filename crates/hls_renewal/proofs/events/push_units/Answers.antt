@@ -1,3 +1,4 @@
+-- A unit that isn't recorded, or whose bytes aren't kept, ends the list of the units from the cut on. Any other unit is the next event.
 use Rattle.std.proofs.Common.{◌∙◌, ◌-◌, ◌<◌, ℕ, List, [], ◌∷◌, ◌++◌, length, sym, ap, inl, inr, arith}
 use Rattle.hls_core_laws.specs.declared.event.Event.TheVariants.{Accept}
 use Rattle.hls_renewal.proofs.RenewalEvents.{unit_missing, unit_pushed}

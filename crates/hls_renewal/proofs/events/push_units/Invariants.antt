@@ -1,3 +1,4 @@
+-- Before each round, the events so far and those of the units from n on are all events to be pushed.
 use Rattle.std.proofs.Common.{◌≡◌, ◌-◌, ◌++◌, length}
 use Rattle.hls_renewal.specs.Renewals.{units_from}
 use Rattle.hls_renewal.proofs.events.push_units.Given as goal

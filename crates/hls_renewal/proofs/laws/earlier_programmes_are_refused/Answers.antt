@@ -1,3 +1,4 @@
+-- A renewed channel refuses a programme that begins before the cut as before the recording.
 use Rattle.hls_renewal.proofs.RenewedProgrammes.{earlier_refused}
 use Rattle.hls_renewal.proofs.laws.earlier_programmes_are_refused.Goals as goal
 

@@ -1,3 +1,4 @@
+-- Each event of a renewal is new in the state that it meets.
 use Rattle.hls_renewal.proofs.NewSlides.{events_new}
 use Rattle.hls_renewal.proofs.laws.renewals_are_new.Goals as goal
 

@@ -1,3 +1,4 @@
+-- If the old channel's live line has a segment, the playlists of the renewed channel equal the old ones, by ranges and by paths.
 use Rattle.hls_renewal.proofs.EqualLists.{equal_lists}
 use Rattle.hls_renewal.proofs.laws.renewed_lists_are_equal.Goals as goal
 

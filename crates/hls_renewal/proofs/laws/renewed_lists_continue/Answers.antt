@@ -1,3 +1,5 @@
+-- If the old channel's live line has a segment, each playlist of the renewed channel is valid as a later one of each
+-- that was sent before the renewal.
 use Rattle.hls_renewal.proofs.EqualLists.{later_lists}
 use Rattle.hls_renewal.proofs.laws.renewed_lists_continue.Goals as goal
 

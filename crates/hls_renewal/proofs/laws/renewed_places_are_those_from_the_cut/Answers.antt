@@ -1,3 +1,4 @@
+-- The common places of a renewed channel are those of the old one from the cut on, counted from there.
 use Rattle.hls_renewal.proofs.RenewedSources.{places_from_cut, renewed}
 use Rattle.hls_renewal.proofs.laws.renewed_places_are_those_from_the_cut.Goals as goal
 

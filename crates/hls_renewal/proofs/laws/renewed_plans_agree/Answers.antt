@@ -1,3 +1,4 @@
+-- A programme from the cut on has the same plans at the same costs, whether its table is counted from the cut or not.
 use Rattle.hls_renewal.proofs.RenewedProgrammes.{plans_agree}
 use Rattle.hls_renewal.proofs.laws.renewed_plans_agree.Goals as goal
 

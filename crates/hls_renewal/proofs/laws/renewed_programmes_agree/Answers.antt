@@ -1,3 +1,4 @@
+-- A programme from the cut on has the same table in a renewed channel as in the old one, counted from the cut, or the same refusal.
 use Rattle.hls_renewal.proofs.RenewedProgrammes.{programmes_agree}
 use Rattle.hls_renewal.proofs.laws.renewed_programmes_agree.Goals as goal
 

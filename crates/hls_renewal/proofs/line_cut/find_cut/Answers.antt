@@ -1,3 +1,5 @@
+-- While the loop runs, no cut is before segment n (`IsCutLeft`). So the first segment that passes the
+-- test has the first cut, or else the front has it.
 use Rattle.std.proofs.Common.{◌≡◌, ◌∙◌, ◌+◌, ◌<◌, ◌≤◌, ℕ, true, false, Option, Some, List, length, take, sym, ap, subst, arith}
 use Rattle.std.specs.Prelude.{IfOk, slice_get}
 use Rattle.hls_places_laws.specs.Line.Live.{Live, live_of, segments_of}

@@ -1,3 +1,4 @@
+-- After n steps the line is that of the first n places.
 use Rattle.std.proofs.Common.{◌∙◌, arith, ap, length}
 use Rattle.hls_places_laws.specs.Line.Live.{Live, fresh}
 use Rattle.hls_core_laws.specs.Config.{ConfigData}

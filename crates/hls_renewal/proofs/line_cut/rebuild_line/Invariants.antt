@@ -1,3 +1,4 @@
+-- Before each round, the line is that of the first n common places of the channel, with no segment removed.
 use Rattle.std.proofs.Common.{◌≡◌}
 use Rattle.hls_core_laws.specs.Line.{line_goal_of}
 use Rattle.hls_core_laws.specs.Places.{places}

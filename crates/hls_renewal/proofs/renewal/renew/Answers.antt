@@ -1,3 +1,5 @@
+-- The parts of `Renews` are the results of the steps: the first cut, its base, the events, and
+-- their replay. A fault is that of the step that failed.
 use Rattle.std.proofs.Common.{◌≡◌, ◌∙◌, ℕ, Some, List, sym, ap, subst}
 use Rattle.hls_core_laws.specs.declared.event.Event.{Event}
 use Rattle.hls_core_laws.specs.Base.{BaseData, IsBase}

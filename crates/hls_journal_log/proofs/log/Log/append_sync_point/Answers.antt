@@ -1,3 +1,4 @@
+-- If the disk's bytes end at the log's end, the record of an appended sync point follows them.
 use Rattle.std.proofs.Common.{◌∙◌, ◌++◌, ap}
 use Rattle.std.proofs.lemmas.Result.{on_ok_weaker}
 use Rattle.hls_journal_log.proofs.Opened.{one_sync_point}

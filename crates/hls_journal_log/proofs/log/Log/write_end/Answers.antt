@@ -1,3 +1,5 @@
+-- Records before the log's end that survive a crash still do after the write, even if it fails.
+-- If it succeeds, the text follows the disk's bytes, provided that they end at the log's end.
 use Rattle.std.proofs.Common.{length}
 use Rattle.hls_journal_log.proofs.Crashes.{survive_write, file_after_write}
 use Rattle.hls_journal_log.proofs.log.Log.write_end.Goals as goal

@@ -28,12 +28,15 @@ use Rattle.hls_journal_store.specs.contracts.call_record.CallRecord.new as it
 use Rattle.hls_journal_store.proofs.call_record.CallRecord.new.Statement as stated
 use Rattle.hls_journal_store.proofs.call_record.CallRecord.new.Code as code
 
+-- the value that the code returns: a structure of one empty structure
 abbrev v : Val
 v = vstruct (vcons (vstruct vnil) vnil)
 
+-- the record of a file without calls
 abbrev r : CallRecord
 r = record { marker = record {}; calls = [] }
 
+-- the body of `new` meets its contract
 meets : {M : Type 1} {𝓤 : Ura M} (𝓛 : Logic 𝓤) → (at_mem : Memory → SProp 𝓤) (run : Routine → Fun 𝓤) (𝓣 : Tables 𝓤 𝓛.H)
     → Meets 𝓛 it.signature (WpFn 𝓤 𝓛.H 𝓣.C 𝓣.Λ code.function) (it.spec 𝓛 at_mem run)
 meets {𝓤 = 𝓤} 𝓛 at_mem run 𝓣 =
@@ -47,6 +50,7 @@ meets {𝓤 = 𝓤} 𝓛 at_mem run 𝓣 =
     suffices ! _ (ends_at 𝓛 it.ended tt (it.clauses 𝓛 at_mem run) ((κs, qs, bounds, a, tt), g) v r tt tt) $ says ! refl $
     nothing ! $ join ! $ nothing ! $ done !)))
 
+-- a call of `new` meets its contract
 pub new_spec : {M : Type 1} → stated.statement M
 unfolding tables_of
 new_spec 𝓤 𝓛 𝓜 𝓡 wired =

@@ -1,3 +1,4 @@
+-- After a batch is written, the log has the records that lead to the batch's position. In the mode `Each` they survive any crash.
 use Rattle.std.proofs.Common.{◌∙◌, ℕ, List, sym, subst}
 use Rattle.hls_journal_store.specs.Followed.{AddsAfterAsides, AreDurable}
 use Rattle.hls_journal_store.proofs.Followed.{batch_grows, batch_durable}

@@ -1,3 +1,4 @@
+-- Before a batch is written, the log has grown from the first position to this one; writing it grows the log to the batch's position.
 use Rattle.std.proofs.Common.{◌∙◌, ap, refl, subst, sym, arith}
 use Rattle.hls_journal_store.specs.declared.batch.Position.{Position}
 use Rattle.hls_journal_store.specs.Batches.{IsNext}

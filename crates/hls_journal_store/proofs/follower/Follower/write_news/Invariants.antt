@@ -1,3 +1,5 @@
+-- Before each round, the log has grown by the records that lead to the follower's position, and the batch is of the next entries.
+-- In the mode `Each` what was written survives any crash. Each round comes nearer to the channel's version.
 use Rattle.std.proofs.Common.{◌-◌, ◌<◌, ◌≤◌, ◌≡◌}
 use Rattle.std.specs.Prelude.{max}
 use Rattle.hls_journal_store.specs.declared.sync_mode.SyncMode.TheVariants.{Each}

@@ -1,3 +1,4 @@
+-- Before each round, no more bytes were written than given. Each round leaves fewer to write.
 use Rattle.std.proofs.Common.{◌-◌, ◌≤◌, length}
 use Rattle.hls_journal_store.proofs.media_track.MediaTrack.write.Given as goal
 

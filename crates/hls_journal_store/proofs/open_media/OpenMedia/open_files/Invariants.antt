@@ -1,3 +1,4 @@
+-- The bytes whose files were opened are never more than the unit's. Each round comes nearer to the unit's end.
 use Rattle.std.proofs.Common.{◌-◌, ◌≤◌}
 use Rattle.hls_journal_store.proofs.open_media.OpenMedia.open_files.Given as goal
 
