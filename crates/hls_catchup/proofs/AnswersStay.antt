@@ -39,7 +39,7 @@ use Rattle.hls_catchup.proofs.Right.{within}
 
 -- ---- playlists over recordings that have grown
 
--- the bytes between two units
+-- further units at the end don't change the bytes between two units
 bytes_same : (facts more : List Facts) (from to : ℕ) → to ≤ length facts → bytes_between (facts ++ more) from to ≡ bytes_between facts from to
 bytes_same facts more from to few = elim (cases_lt from to) [
   | inl less ↦
@@ -51,17 +51,21 @@ bytes_same facts more from to few = elim (cases_lt from to) [
 ]
 
 module _ (epoch : Option ℤ) (r : ℕ) (uri : List ℕ) (init first : ℕ) (facts more : List Facts) where
+  -- how a rendition's units are in its resource, by their facts
   abbrev layout : List Facts → ResourceLayout
   layout fs = record { rendition = r; uri = uri; init_length = init; first = first; facts = fs; epoch = epoch }
 
+  -- a byte range whose offset counts from the end of the init section
   abbrev range : ℕ → ℕ → ByteRange
   range len offset = record { length = len; offset = init + offset }
 
+  -- further units don't change the byte range between two spots
   range_same : (from to : Spot) → from.fragment ≤ length facts → to.fragment ≤ length facts → range_between (layout (facts ++ more)) from to ≡ range_between (layout facts) from to
   range_same from to before few =
       ap (λ (n : ℕ). range n (bytes_between (facts ++ more) first from.fragment)) (bytes_same facts more from.fragment to.fragment few)
       ∙ ap (range (bytes_between facts from.fragment to.fragment)) (bytes_same facts more first from.fragment before)
 
+  -- the segment between two places in this rendition, with its mark and its bytes
   abbrev segment : Bool → List Spot → List Spot → ByteRange → MediaSegment
   segment mark from to bytes = record {
     mark = mark;
@@ -71,6 +75,7 @@ module _ (epoch : Option ℤ) (r : ℕ) (uri : List ℕ) (init first : ℕ) (fac
     uri = uri;
   }
 
+  -- further units don't change the segments of a plan from place p on
   segments_same : (places : List (List Spot)) → ((p : ℕ) → (spot_in (place_at places p) r).fragment ≤ length facts) → (p : ℕ) (mark : Bool) (plan : List ℕ)
       → plan_segments_from (layout (facts ++ more)) places p mark plan ≡ plan_segments_from (layout facts) places p mark plan
   segments_same places few p mark [] = refl
@@ -79,17 +84,19 @@ module _ (epoch : Option ℤ) (r : ℕ) (uri : List ℕ) (init first : ℕ) (fac
       (ap (segment mark (place_at places p) (place_at places q)) (range_same (spot_in (place_at places p) r) (spot_in (place_at places q) r) (few p) (few q)))
       ∙ ap (λ (ss : List MediaSegment). segment_between (layout facts) mark (place_at places p) (place_at places q) ∷ ss) (segments_same places few q (is_break (place_at places q)) rest)
 
+  -- further units don't change the segments of a plan, if its places are within the earlier ones
   plan_same : (places : List (List Spot)) → ((p : ℕ) → (spot_in (place_at places p) r).fragment ≤ length facts) → (plan : List ℕ)
       → plan_segments (layout (facts ++ more)) places plan ≡ plan_segments (layout facts) places plan
   plan_same places few [] = refl
   plan_same places few (p ∷ rest) = segments_same places few p false rest
 
--- an init section as long, and more units
+-- recording b has the same length of its init section as recording a, and a's units with perhaps further ones
 record GrowsTo (a b : RecordingData) : Type 0 where
   pub head : length b.head ≡ length a.head
   pub more : List Facts
   pub facts : b.facts ≡ a.facts ++ more
 
+-- a recording that has grown gives the same playlist of a plan, if the table's places are within the earlier units
 list_same : (epoch : Option ℤ) (a b : RecordingData) (r : ℕ) (t : Table) (plan : List ℕ) → GrowsTo a b → ((p : ℕ) → (spot_in (place_at t.places p) r).fragment ≤ length a.facts)
     → job_list epoch b r t plan ≡ job_list epoch a r t plan
 list_same epoch a b r t plan grows few =
@@ -99,14 +106,16 @@ list_same epoch a b r t plan grows few =
 
 -- ---- the recordings of a state that follows
 
--- the recording of a lane with these bytes
+-- if there is a recording for a lane, the lane is there, and the recording is made of it
 recorded_is : (o : Option Lane) (h : HeldBytes) (recorded : RecordingData) → recorded_at o h ≡ Some recorded → (l : Lane) × (o ≡ Some l) × (recorded_from l.init l h ≡ Some recorded)
 recorded_is None h recorded is = absurd (cc is)
 recorded_is (Some l) h recorded is = (l, refl, is)
 
+-- the recording of a lane with this init section and these bytes
 abbrev recording_with : InitData → Lane → HeldBytes → RecordingData
 recording_with init l h = record { init = init; head = h.head; facts = l.facts; floor = l.floor; units = h.units }
 
+-- if a recording is made of a lane, the lane has an init section, and the recording has it
 init_is : (o : Option InitData) (l : Lane) (h : HeldBytes) (recorded : RecordingData) → recorded_from o l h ≡ Some recorded → (init : InitData) × (o ≡ Some init) × (recording_with init l h ≡ recorded)
 init_is None l h recorded is = absurd (cc is)
 init_is (Some init) l h recorded is = (init, refl, cc is)
@@ -118,6 +127,7 @@ record HasGrown (a : RecordingData) (s : State) (r : ℕ) : Type 0 where
   pub grows : GrowsTo a next
   pub lengths : HaveLengths next.facts next.floor next.units
 
+-- the recording of a rendition has grown in each state that follows
 has_grown : (a b : State) → FollowsAsState a b → (r : ℕ) (old : RecordingData) → recording_of a r ≡ Some old → HasGrown old b r
 has_grown a b ab r old is =
     let found = recorded_is (slice_get (channel a).lanes r) (held_bytes a r) old is in
@@ -162,17 +172,19 @@ before_same a b ab request t recordings are was r recorded at =
       ap (λ (facts : List Facts). bytes_between facts 0 first) grown.grows.facts ∙ bytes_same recorded.facts grown.grows.more 0 first (places-within a request t recordings are was 0 r recorded at),
     )
 
--- those from number k on
+-- as many recordings of a state as the earlier ones, of the renditions from number k on
 record AreGathered (s : State) (k : ℕ) (olds : List RecordingData) : Type 0 where
   pub list : List RecordingData
   pub count : length list ≡ length olds
   pub each : (r : ℕ) (x : RecordingData) → slice_get list r ≡ Some x → recording_of s (k + r) ≡ Some x
 
+-- the recording of rendition k before those from k + 1 on gives those from k on
 each_one : (s : State) (k : ℕ) (first : RecordingData) (rest : List RecordingData) → recording_of s k ≡ Some first → ((r : ℕ) (x : RecordingData) → slice_get rest r ≡ Some x → recording_of s (suc k + r) ≡ Some x)
     → (r : ℕ) (x : RecordingData) → slice_get (first ∷ rest) r ≡ Some x → recording_of s (k + r) ≡ Some x
 each_one s k first rest is others zero x at = let here : k + 0 ≡ k = omega arith in ap (recording_of s) here ∙ is ∙ at
 each_one s k first rest is others (suc r) x at = let here : k + suc r ≡ suc k + r = omega arith in ap (recording_of s) here ∙ others r x at
 
+-- the recordings of the renditions from k on are there in each state that follows, as many as before
 gather : (a b : State) → FollowsAsState a b → (k : ℕ) (olds : List RecordingData) → ((r : ℕ) (x : RecordingData) → slice_get olds r ≡ Some x → recording_of a (k + r) ≡ Some x) → AreGathered b k olds
 gather a b ab k [] each = record { list = []; count = refl; each = λ r x at. absurd (cc at) }
 gather a b ab k (old ∷ olds) each =
@@ -185,6 +197,7 @@ gather a b ab k (old ∷ olds) each =
 
 module _ (a b : State) (ab : FollowsAsState a b) (request : Request) (t : Table) (olds news : List RecordingData) (was : IsTableFor a request (Ok t)) (are_a : AreRecordings a olds)
     (are_b : AreRecordings b news) (same_count : length olds ≡ length news) (covered : AreCovered t news) where
+  -- a right playlist of a plan over an earlier recording is right over the recording that has grown
   list_stays : (plan : List ℕ) → IsPlan t plan → (r : ℕ) (recorded : RecordingData) (list : Playlist) → slice_get news r ≡ Some recorded
       → ((old : RecordingData) → slice_get olds r ≡ Some old → IsRightList a.config.epoch old r t plan list) → IsRightList a.config.epoch recorded r t plan list
   list_stays plan is_plan r recorded list at right =
@@ -209,11 +222,14 @@ module _ (a b : State) (ab : FollowsAsState a b) (request : Request) (t : Table)
             (media_are_the_units t plan cut recorded.head recorded.floor recorded.units is_plan (omega (arith, below, covered.renditions)) refl refl (covered.each r recorded at).kept lengths);
       }
 
+  -- a certificate that shows a least plan with right playlists still shows it over the recordings that have grown
   shows_still : (lists : List Playlist) (shown : ClaimData) → ShowsCut a.config.epoch olds t lists shown → ShowsCut a.config.epoch news t lists shown
   shows_still lists (CutClaim total plan prices) shows =
       (shows.0, record { count = shows.1.count; each = λ r recorded list at there. list_stays plan shows.0.is_plan r recorded list at (λ old at_old. shows.1.each r old list at_old there) })
   shows_still lists (NoneClaim closed) shows = absurd shows
 
+-- a right answer stays right in a state that follows, if its programme is the same there and its result is right
+-- over the recordings of that state
 answer_stays : (a b : State) → FollowsAsState a b → (request : Request) (cut_result : CutResult) (x : IsRightAnswer a request cut_result) → IsTableFor b request (Ok x.table)
     → IsTable x.table → ((news : List RecordingData) → AreRecordings b news → length x.recordings ≡ length news → AreCovered x.table news → IsRightCutResult a.config.epoch news x.table cut_result)
     → IsRightAnswer b request cut_result
@@ -227,6 +243,7 @@ answer_stays a b ab request cut_result x defined valid right =
     let covered = table-covered b request x.table gathered.list are valid defined in
     right_answer b a.config.epoch request x.table gathered.list cut_result (ap (λ (c : ConfigData). c.epoch) (sym config)) defined are valid (right gathered.list are (sym gathered.count) covered)
 
+-- a right answer, with a plan or without, is one of each state that follows with the same programme
 stays_after : (a b : State) → FollowsAsState a b → (request : Request) (cut_result : CutResult) (x : IsRightAnswer a request cut_result) → IsTableFor b request (Ok x.table) → IsRightAnswer b request cut_result
 stays_after a b ab request (Cut lists certificate) x defined =
     let good = x.right.0 in
@@ -236,6 +253,7 @@ stays_after a b ab request (NoCut certificate) x defined =
     let good = x.right.0 in
     answer_stays a b ab request (NoCut certificate) x defined (subst IsTable good.0 good.2.form.table) (λ news are count covered. (good, x.right.1))
 
+-- a right answer of a state is one of each state that follows, if the programme is the same there
 pub answers_stay : AnswersStay
 answers_stay a b request cut_result (inl equal) x defined = subst (λ (s : State). IsRightAnswer s request cut_result) equal x
 answers_stay a b request cut_result (inr ab) x defined = stays_after a b ab request cut_result x defined

@@ -29,9 +29,11 @@ taken_true false x y is = cc
 below_is : (k m n : ℕ) → k < n → k ≡ m → m ≤ n
 below_is k m n below same = omega arith
 
+-- a number is at most itself
 all_of : (n : ℕ) → n ≤ n
 all_of n = omega arith
 
+-- a rendition's spot for a time is at one of its fragments
 near-bounded : (s : Source) (t : ℕ) (spot : Spot) → near_spot s t ≡ Some spot → spot.fragment ≤ length s.facts
 near-bounded s t spot is =
     let k : ℕ = first_entry (t - s.tolerance) s.facts in
@@ -40,6 +42,7 @@ near-bounded s t spot is =
     ltb-true k (length s.facts) (and_parts (nat_lt k (length s.facts)) (nat_le (fact_at s.facts k).start_us (t + s.tolerance)) parts.0).0 in
     below_is k spot.fragment (length s.facts) below (ap (λ (x : Spot). x.fragment) parts.1)
 
+-- if the first rendition's spot and the spots of the others are bounded, all of them are
 both_there : (s : Source) (sources : List Source) (o : Option Spot) (rest : Option (List Spot)) (found : List Spot) → with_spot o rest ≡ Some found →
     ((spot : Spot) → o ≡ Some spot → spot.fragment ≤ length s.facts) → ((others : List Spot) → rest ≡ Some others → Bounded sources others) →
     Bounded (s ∷ sources) found
@@ -48,24 +51,29 @@ both_there s sources (Some spot) None found is first others = cc
 both_there s sources (Some spot) (Some more) found is first others =
     subst (Bounded (s ∷ sources)) (same_Some (spot ∷ more) found is) (first spot refl, others more refl)
 
+-- the spots of all renditions for a time are bounded
 spots-bounded : (sources : List Source) (t : ℕ) (found : List Spot) → spots sources t ≡ Some found → Bounded sources found
 spots-bounded [] t found is = subst (Bounded []) (same_Some [] found is) tt
 spots-bounded (s ∷ sources) t found is =
     both_there s sources (near_spot s t) (spots sources t) found is (near-bounded s t) (spots-bounded sources t)
 
+-- the spots after all fragments are bounded
 ends-bounded : (sources : List Source) → Bounded sources (map source_end_spot sources)
 ends-bounded [] = tt
 ends-bounded (s ∷ sources) = (all_of (length s.facts), ends-bounded sources)
 
+-- a place that is made of spots is bounded if they are
 mapped : (sources : List Source) (o : Option (List Spot)) (p : Place) → option_map place_of o ≡ Some p →
     ((found : List Spot) → o ≡ Some found → Bounded sources found) → Bounded sources p.spots
 mapped sources None p is each = cc
 mapped sources (Some found) p is each =
     subst (λ (x : Place). Bounded sources x.spots) (same_Some (place_of found) p is) (each found refl)
 
+-- None is no place
 not_some : (p : Place) → None ≡ Some p → ⊥
 not_some p is = cc
 
+-- the common place at a fragment is bounded
 place-bounded : (sources : List Source) (f : Facts) (p : Place) → common_at sources f ≡ Some p → Bounded sources p.spots
 place-bounded sources f p is =
     elim (cases_Bool f.sync) [
@@ -76,6 +84,7 @@ place-bounded sources f p is =
           absurd (not_some p (sym (cond-false f.sync _ _ not_sync) ∙ is))
     ]
 
+-- in every common place, each spot is at a fragment of its rendition or at the end of all
 pub places-bounded : (sources : List Source) → All (λ (p : Place). Bounded sources p.spots) (places_of sources)
 places-bounded sources =
     let P : Place → Type 0 = λ p. Bounded sources p.spots in

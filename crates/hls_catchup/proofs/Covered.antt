@@ -23,20 +23,22 @@ use Rattle.hls_catchup.specs.Requests.{goal_for, IsTableFor, AreRecordings, IsRi
 use Rattle.hls_catchup.proofs.Bounded.{Bounded, places-bounded}
 use Rattle.hls_catchup.proofs.States.{same_facts, same_floors}
 
--- the recordings paired with the tolerances and with whether they are finished, and their floors
+-- the facts of the recordings, paired with the tolerances and with whether the renditions are finished
 abbrev sources_with : List RecordingData → List ℕ → List Bool → List Source
 sources_with recordings tolerances finished = sources_of (map (λ (r : RecordingData). r.facts) recordings) tolerances finished
 
+-- the floors of the recordings
 abbrev floors_with : List RecordingData → List ℕ
 floors_with recordings = map (λ (r : RecordingData). r.floor) recordings
 
--- spots paired with the recordings, each between the floor and the count
+-- spots paired with the recordings, each from the recording's floor to the end of its fragments
 abbrev pub Within : List RecordingData → List Spot → Type 0
 Within [] [] = ⊤
 Within [] (spot ∷ others) = ⊥
 Within (r ∷ recordings) [] = ⊥
 Within (r ∷ recordings) (spot ∷ others) = (r.floor ≤ spot.fragment) × (spot.fragment ≤ length r.facts) × Within recordings others
 
+-- spots that are bounded and not below the floors are within the recordings
 within-from : (recordings : List RecordingData) (tolerances : List ℕ) (finished : List Bool) (spots : List Spot) →
     length tolerances ≡ length recordings → length finished ≡ length recordings →
     Bounded (sources_with recordings tolerances finished) spots → is_kept_above (floors_with recordings) spots ≡ true → Within recordings spots
@@ -52,6 +54,7 @@ within-from (r ∷ recordings) (t ∷ tolerances) (over ∷ finished) (spot ∷ 
       within-from recordings tolerances finished spots (omega arith) (omega arith) bounded.1 parts.1,
     )
 
+-- if P holds of all elements and implies Q for each that passes a test, Q holds of all that pass
 filtered : {A : Type 0} (test : A → Bool) (P Q : A → Type 0) (xs : List A) → ((x : A) → test x ≡ true → P x → Q x) → All P xs → All Q (filter test xs)
 filtered test P Q [] each all = All-nil Q
 filtered test P Q (x ∷ xs) each all =
@@ -69,6 +72,7 @@ kept-within recordings tolerances finished same also =
     (λ p passes bounded. within-from recordings tolerances finished p.spots same also bounded passes)
     (places-bounded sources)
 
+-- each kept place of a state is within its recordings
 state-within : (s : State) (recordings : List RecordingData) → AreRecordings s recordings → All (λ (p : Place). Within recordings p.spots) (kept_places s)
 state-within s recordings are =
     let tolerances : List ℕ = map tolerance_of s.config.renditions in
@@ -80,12 +84,14 @@ state-within s recordings are =
     (subst (λ (lists : List (List Facts)). P (filter_kept (floors_with recordings) (places_of (sources_of lists tolerances finished)))) (same_facts s recordings are)
     (kept-within recordings tolerances finished same also))
 
+-- spots within recordings are as many as the recordings
 within-long : (recordings : List RecordingData) (spots : List Spot) → Within recordings spots → length spots ≡ length recordings
 within-long [] [] within = refl
 within-long [] (spot ∷ spots) within = absurd within
 within-long (r ∷ recordings) [] within = absurd within
 within-long (r ∷ recordings) (spot ∷ spots) within = ap suc (within-long recordings spots within.2)
 
+-- the spot of rendition r is from its recording's floor to the end of its fragments
 within-at : (recordings : List RecordingData) (spots : List Spot) → Within recordings spots → (r : ℕ) (recorded : RecordingData) →
     slice_get recordings r ≡ Some recorded → (recorded.floor ≤ (spot_in spots r).fragment) × ((spot_in spots r).fragment ≤ length recorded.facts)
 within-at [] spots within r recorded at = cc
@@ -107,9 +113,11 @@ table-within s request t recordings are is =
     let listed : All (Within recordings) (map (λ (p : Place). p.spots) range) = All-map (Within recordings) (λ (p : Place). p.spots) range all in
     subst (λ (x : Table). All (Within recordings) x.places) cut listed
 
+-- the spot of a place that has none is at fragment 0
 none-spot : (r n : ℕ) → (spot_in [] r).fragment ≤ n
 none-spot r n = omega arith
 
+-- in each place of a programme's table, a rendition's spot is at most at the end of its recording's fragments
 pub places-within : (s : State) (request : Request) (t : Table) (recordings : List RecordingData) → AreRecordings s recordings → IsTableFor s request (Ok t) →
     (p r : ℕ) (recorded : RecordingData) → slice_get recordings r ≡ Some recorded → (spot_in (place_at t.places p) r).fragment ≤ length recorded.facts
 places-within s request t recordings are is p r recorded at = elim (cases_lt p (length t.places)) [
@@ -117,6 +125,7 @@ places-within s request t recordings are is p r recorded at = elim (cases_lt p (
   | inr past ↦ subst (λ (place : List Spot). (spot_in place r).fragment ≤ length recorded.facts) (sym (get_or_past t.places p [] past)) (none-spot r (length recorded.facts))
 ]
 
+-- the recordings of a state keep all units of a programme's table
 pub table-covered : (s : State) (request : Request) (t : Table) (recordings : List RecordingData) → AreRecordings s recordings → IsTable t →
     IsTableFor s request (Ok t) → AreCovered t recordings
 table-covered s request t recordings are valid is =
@@ -132,7 +141,7 @@ table-covered s request t recordings are valid is =
       };
     }
 
--- an answer over the recordings of the state is right
+-- a result that is right over the recordings of a state is a right answer of the state
 pub right_answer : (s : State) (epoch : Option ℤ) (request : Request) (table : Table) (recordings : List RecordingData) (cut_result : CutResult) →
     epoch ≡ s.config.epoch → IsTableFor s request (Ok table) → AreRecordings s recordings → IsTable table → IsRightCutResult epoch recordings table cut_result →
     IsRightAnswer s request cut_result

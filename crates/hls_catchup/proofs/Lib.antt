@@ -1,3 +1,5 @@
+-- The lemmas of this crate, on requests for programmes of a channel: the table of a request, the kept places in it, the recordings that cover it,
+-- and right answers that stay right.
 mod Cited
 mod Pieces
 mod Walks

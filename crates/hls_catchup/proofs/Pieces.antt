@@ -12,7 +12,7 @@ use Rattle.hls_media_laws.specs.FactLists.{len_of}
 use Rattle.hls_playlists_laws.specs.JobResource.{bytes_between, units_between, resource_of, HaveLengths}
 use Rattle.hls_playlists.proofs.Offsets.{offsets_add}
 
--- lists of equal lengths, element by element
+-- facts and units that have equal lengths one by one have equal lists of lengths
 same_lengths : (fs : List Facts) (us : List (List ℕ)) →
     ((k : ℕ) (f : Facts) (u : List ℕ) → slice_get fs k ≡ Some f → slice_get us k ≡ Some u → f.len ≡ length u) → length us ≡ length fs →
     map len_of fs ≡ map length us
@@ -33,10 +33,11 @@ lengths_of init facts floor units kept fits =
     (λ k f u at_f at_u. (units_are_bounded init u f (fits k f u (sym (at_drop facts floor k) ∙ at_f) at_u)).len_is)
     (omega (arith, kept))
 
--- .. and so are a recording's
+-- the kept units of a recording are as long as their facts say
 pub have_lengths : (r : RecordingData) → IsRecorded r → HaveLengths r.facts r.floor r.units
 have_lengths r valid = lengths_of r.init r.facts r.floor r.units valid.kept valid.fits
 
+-- a resource is as long as its init section and the bytes between its first and last unit
 pub resource_long : (r : RecordingData) (first end : ℕ) → IsRecorded r → r.floor ≤ first →
     length (resource_of r.head r.floor r.units first end) ≡ length r.head + bytes_between r.facts first end
 resource_long r first end valid kept =
@@ -65,7 +66,7 @@ within_first (u ∷ us) (suc d) y inside =
           )
     ]
 
--- past the units there is no piece
+-- past the units of a resource there is no piece
 pub piece_past : (r : RecordingData) (first end at : ℕ) → IsRecorded r → r.floor ≤ first → length r.head ≤ at →
     bytes_between r.facts first end ≤ at - length r.head →
     unit_piece (r.head ∷ units_between r.floor r.units first end) at ≡ None
@@ -74,7 +75,7 @@ piece_past r first end at valid kept behind_head past =
     bytes_are r.facts r.floor r.units first end kept (have_lengths r valid) in
     rw (le-ltb at (length r.head) behind_head) (no_piece (units_between r.floor r.units first end) (at - length r.head) (omega arith))
 
--- within the units the recording has the same piece, at a later offset
+-- within the units, a resource has the same piece as the recording at the later offset there
 pub piece_there : (r : RecordingData) (first end at : ℕ) → IsRecorded r → r.floor ≤ first → length r.head ≤ at →
     at - length r.head < bytes_between r.facts first end →
     piece_at r (offset_at r first + (at - length r.head)) ≡ unit_piece (r.head ∷ units_between r.floor r.units first end) at

@@ -16,16 +16,19 @@ use Rattle.hls_catchup.specs.declared.standalone.Action.TheVariants as action
 use Rattle.hls_catchup.specs.Replies.{ReplyData, IsAnswered}
 use Rattle.hls_catchup.specs.Play.{events_in, requests_in, state_before, AppendsAnswer, IsPlayed, IsRunTo}
 
+-- the events of joined actions are those of the former, then those of the latter
 events_in-append : (xs ys : List Action) → events_in (xs ++ ys) ≡ events_in xs ++ events_in ys
 events_in-append [] ys = refl
 events_in-append (action.Event by event ∷ xs) ys = ap (λ (es : List (ℕ × Event)). (by, event) ∷ es) (events_in-append xs ys)
 events_in-append (action.Ask request ∷ xs) ys = events_in-append xs ys
 
+-- the requests of joined actions are those of the former, then those of the latter
 requests_in-append : (xs ys : List Action) → requests_in (xs ++ ys) ≡ requests_in xs ++ requests_in ys
 requests_in-append [] ys = refl
 requests_in-append (action.Event by event ∷ xs) ys = requests_in-append xs ys
 requests_in-append (action.Ask request ∷ xs) ys = ap (λ (rs : List Request). request ∷ rs) (requests_in-append xs ys)
 
+-- joined events lead to the state that the latter lead to from the state of the former
 replayed-append : (s : State) (xs ys : List (ℕ × Event)) → replayed_state s (xs ++ ys) ≡ replayed_state (replayed_state s xs) ys
 replayed-append s [] ys = refl
 replayed-append s (e ∷ xs) ys = replayed-append (next_state s e.0 e.1) xs ys
@@ -44,6 +47,7 @@ record IsAction (actions : List Action) (i : ℕ) (a : Action) : Type 0 where
   upto : take (i + 1) actions ≡ take i actions ++ a ∷ []
   at : slice_get actions i ≡ Some a
 
+-- action i is the first of those from i on, and the last of those up to it
 action_at : (actions : List Action) (i : ℕ) (a : Action) → i < length actions → a ≡ get_or actions i a → IsAction actions i a
 action_at actions i a within is = record {
   rest = drop_more actions i a within ∙ ap (λ (x : Action). x ∷ drop (i + 1) actions) (sym is);
@@ -51,6 +55,7 @@ action_at actions i a within is = record {
   at = slice_get-get_or actions i a within ∙ ap (λ (x : Action). Some x) (sym is);
 }
 
+-- before the first action the run is in its first state, without answers
 pub first_played : (config : ConfigData) (actions : List Action) → AreFitting (first_state config) (events_in actions) →
     IsPlayedTo config actions 0 (first_state config) []
 first_played config actions fitting = record {
@@ -60,7 +65,7 @@ first_played config actions fitting = record {
   each = λ k request none. absurd (omega arith);
 }
 
--- an event's action
+-- if action i is an event, the run has the next state after it, and the same answers
 pub event_played : (config : ConfigData) (actions : List Action) (i : ℕ) (state next : State) (answers : List (Result ReplyData CatchFault)) (a : Action)
     (by : ℕ) (event : Event) → i < length actions → a ≡ get_or actions i a → a ≡ action.Event by event →
     IsPlayedTo config actions i state answers → next ≡ next_state state by event → IsPlayedTo config actions (i + 1) next answers
@@ -98,6 +103,7 @@ kept_answer s request [] more m is = absurd is
 kept_answer s request (a ∷ answers) more zero is = is
 kept_answer s request (a ∷ answers) more (suc m) is = kept_answer s request answers more m is
 
+-- an answer that is appended is at the index of the previous number of answers
 last_answer : (answers : List (Result ReplyData CatchFault)) (a : Result ReplyData CatchFault) (m : ℕ) → m ≡ length answers →
     slice_get (answers ++ a ∷ []) m ≡ Some a
 last_answer [] a zero is = refl
@@ -105,7 +111,7 @@ last_answer [] a (suc m) is = absurd (omega arith)
 last_answer (x ∷ answers) a zero is = absurd (omega arith)
 last_answer (x ∷ answers) a (suc m) is = last_answer answers a m (omega arith)
 
--- a request's action
+-- if action i is a request, the run has the same state after it, and one more answer, which is right
 ask_answered : (config : ConfigData) (actions : List Action) (i : ℕ) (state : State) (answers : List (Result ReplyData CatchFault)) (a : Action)
     (request : Request) (answer : Result ReplyData CatchFault) → i < length actions → a ≡ get_or actions i a → a ≡ action.Ask request →
     IsPlayedTo config actions i state answers → IsAnswered state request (Some answer) → IsPlayedTo config actions (i + 1) state (answers ++ answer ∷ [])
@@ -149,12 +155,14 @@ ask_answered config actions i state answers a request answer within is kind befo
           ];
     }
 
+-- the same if a call appended the answer
 pub ask_played : (config : ConfigData) (actions : List Action) (i : ℕ) (state : State) (answers more : List (Result ReplyData CatchFault)) (a : Action)
     (request : Request) → i < length actions → a ≡ get_or actions i a → a ≡ action.Ask request →
     IsPlayedTo config actions i state answers → AppendsAnswer state request answers more → IsPlayedTo config actions (i + 1) state more
 ask_played config actions i state answers more a request within is kind before has =
     subst (IsPlayedTo config actions (i + 1) state) (sym has.appended) (ask_answered config actions i state answers a request has.answer within is kind before has.right)
 
+-- after all actions, the run has its last state and the answer to each request
 pub all_played : (config : ConfigData) (actions : List Action) (i : ℕ) (state : State) (answers : List (Result ReplyData CatchFault)) →
     length actions ≤ i → IsPlayedTo config actions i state answers → IsPlayed config actions state answers
 all_played config actions i state answers all played =
@@ -165,13 +173,13 @@ all_played config actions i state answers all played =
       each = λ k request at. let within : k < length actions = slice_get_within actions k (action.Ask request) at in played.each k request (omega arith) at;
     }
 
--- one more event, which fits the state that the others lead to
+-- events that fit, and one more that fits the state to which they lead, fit together
 fitting-more : (s : State) (events : List (ℕ × Event)) (by : ℕ) (event : Event) → AreFitting s events → IsFitting (replayed_state s events) event →
     AreFitting s (events ++ ((by, event) ∷ []))
 fitting-more s [] by event fitting fits = (fits, tt)
 fitting-more s (e ∷ events) by event fitting fits = (fitting.0, fitting-more (next_state s e.0 e.1) events by event fitting.1 fits)
 
--- a run with one more event
+-- a run to a state, with one more event that fits there, is a run to the next state
 pub run_with_event : (config : ConfigData) (actions : List Action) (state next : State) (by : ℕ) (event : Event) → IsRunTo config actions state →
     IsFitting state event → next ≡ next_state state by event → IsRunTo config (actions ++ action.Event by event ∷ []) next
 run_with_event config actions state next by event run fits stepped =
@@ -183,7 +191,7 @@ run_with_event config actions state next by event run fits stepped =
           ∙ ap (replayed_state (first_state config)) (sym reported),
     )
 
--- a run with one more request
+-- a run with one more request is a run to the same state
 pub run_with_request : (config : ConfigData) (actions : List Action) (state : State) (request : Request) → IsRunTo config actions state →
     IsRunTo config (actions ++ action.Ask request ∷ []) state
 run_with_request config actions state request run =

@@ -25,6 +25,7 @@ all_from_each : {A : Type 0} (P : A → Type 0) (xs : List A) → ((k : ℕ) (x 
 all_from_each P [] each = All-nil P
 all_from_each P (x ∷ xs) each = All-cons P x xs (each 0 x refl) (all_from_each P xs (λ k y at. each (suc k) y at))
 
+-- the units of a recording aren't empty, and their bytes are within the limit
 units_good : (epoch : Option ℤ) (r : RecordingData) (rendition : ℕ) (uri : List ℕ) (first : ℕ) → IsRecorded r → AreUnits (job_layout epoch r rendition uri first)
 units_good epoch r rendition uri first valid = record {
   some = all_from_each (λ f. 0 < f.len) r.facts
@@ -32,6 +33,7 @@ units_good epoch r rendition uri first valid = record {
   total = valid.small;
 }
 
+-- over a recording that keeps the programme's units, the playlist of a plan is right
 pub right_list : (epoch : Option ℤ) (recorded : RecordingData) (r : ℕ) (t : Table) (plan : List ℕ) →
     IsEpoch epoch → IsRecorded recorded → IsTable t → IsPlan t plan → r < t.renditions → IsCovered t r recorded →
     IsRightList epoch recorded r t plan (job_list epoch recorded r t plan)
@@ -52,7 +54,7 @@ right_list epoch recorded r t plan known valid table is_plan within covered =
       media = media_are_the_units t plan cut recorded.head recorded.floor recorded.units is_plan within refl refl covered.kept (have_lengths recorded valid);
     }
 
--- the playlist at each index
+-- the playlist at index k is that of rendition `first + k` over the recording at index k
 list_at : (epoch : Option ℤ) (first : ℕ) (recordings : List RecordingData) (t : Table) (plan : List ℕ) (k : ℕ) (recorded : RecordingData) (list : Playlist) →
     slice_get recordings k ≡ Some recorded → slice_get (job_lists epoch first recordings t plan) k ≡ Some list → list ≡ job_list epoch recorded (first + k) t plan
 list_at epoch first [] t plan k recorded list at there = cc
@@ -63,16 +65,18 @@ list_at epoch first (r ∷ recordings) t plan zero recorded list at there =
 list_at epoch first (r ∷ recordings) t plan (suc k) recorded list at there =
     list_at epoch (suc first) recordings t plan k recorded list at there ∙ ap (λ n. job_list epoch recorded n t plan) (omega arith)
 
+-- there is one playlist for each recording
 length_lists : (epoch : Option ℤ) (first : ℕ) (recordings : List RecordingData) (t : Table) (plan : List ℕ) → length (job_lists epoch first recordings t plan) ≡ length recordings
 length_lists epoch first [] t plan = refl
 length_lists epoch first (r ∷ recordings) t plan = ap suc (length_lists epoch (suc first) recordings t plan)
 
--- an element's index
+-- an element's index is below the length of the list
 pub within : {A : Type 0} (xs : List A) (k : ℕ) (x : A) → slice_get xs k ≡ Some x → k < length xs
 within [] k x at = cc
 within (y ∷ xs) zero x at = omega arith
 within (y ∷ xs) (suc k) x at = let rest : k < length xs = within xs k x at in omega arith
 
+-- over recordings that keep the programme's units, the playlists of a plan are right in each rendition
 pub right_lists : (epoch : Option ℤ) (recordings : List RecordingData) (t : Table) (plan : List ℕ) → IsEpoch epoch →
     ((r : ℕ) (recorded : RecordingData) → slice_get recordings r ≡ Some recorded → IsRecorded recorded) → IsTable t → IsPlan t plan → AreCovered t recordings →
     AreRightLists epoch recordings t plan (job_lists epoch 0 recordings t plan)
@@ -85,7 +89,7 @@ right_lists epoch recordings t plan known valid table is_plan covered = record {
       (right_list epoch recorded r t plan known (valid r recorded at) table is_plan (omega (arith, covered.renditions)) (covered.each r recorded at));
 }
 
--- what holds of each borrowed value holds of the values
+-- what holds of each borrowed recording holds of the recordings themselves
 each_borrowed : (recordings : List (Bor RecordingData)) → All (λ r. IsRecorded r.now) recordings →
     (r : ℕ) (recorded : RecordingData) → slice_get (map (λ r. r.now) recordings) r ≡ Some recorded → IsRecorded recorded
 each_borrowed [] all r recorded at = cc
@@ -95,7 +99,7 @@ each_borrowed (first ∷ recordings) all zero recorded at =
 each_borrowed (first ∷ recordings) all (suc r) recorded at =
     each_borrowed recordings (All-tail (λ r. IsRecorded r.now) first recordings all) r recorded at
 
--- a least plan's playlists and its certificate
+-- the playlists of a least plan are right, and the certificate is good and shows the plan
 pub right_cut : (epoch : Option ℤ) (recordings : List (Bor RecordingData)) (t : Table) (planned : Planned) (plan : Vec ℕ Global) (prices : Vec (Option ℕ) Global)
     (lists : List Playlist) (certificate : CertificateData) →
     certificate ≡ certificate_of t planned → planned ≡ Cut plan prices → IsGood (certificate_of t planned) → IsAccepted (certificate_of t planned) → IsBest t planned →
@@ -114,7 +118,7 @@ right_cut epoch recordings t planned plan prices lists certificate is same good 
     let P : CertificateData → Type 0 = λ c. IsGoodFor t c × ShowsCut epoch recorded t lists c.shown in
     subst P (sym shown) ((refl, well, fine), (least, right))
 
--- the certificate that there is no plan
+-- the certificate is good and shows that there is no plan
 pub right_none : (t : Table) (planned : Planned) (closed : Vec Bool Global) (certificate : CertificateData) → certificate ≡ certificate_of t planned →
     planned ≡ NoCut closed → IsGood (certificate_of t planned) → IsAccepted (certificate_of t planned) → IsBest t planned →
     IsGoodFor t certificate × ShowsNoCut t certificate.shown

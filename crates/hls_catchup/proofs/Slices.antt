@@ -23,7 +23,7 @@ behind_slices (u ∷ us) (suc m) w =
     let long : length (u ++ concat (take m us)) + w ≡ length u + (length (concat (take m us)) + w) = omega (arith, length-append u (concat (take m us))) in
     ap (λ n. drop n (u ++ concat us)) long ∙ drop-append-add u (concat us) (length (concat (take m us)) + w) ∙ behind_slices us m w
 
--- the slice of a unit is the unit
+-- unit k of those between two numbers is the recording's unit `first + k`
 unit_at_slice : (r : RecordingData) (first end k : ℕ) → r.floor ≤ first → k < end - first
     → unwrap_or (unit_at r (first + k)) [] ≡ get_or (units_between r.floor r.units first end) k []
 unit_at_slice r first end k kept within =
@@ -32,6 +32,7 @@ unit_at_slice r first end k kept within =
     (unwrap_or-slice_get r.units (first + k - r.floor) [] ∙ ap (λ n. get_or r.units n []) moved
     ∙ sym (get_or-take (end - first) (drop (first - r.floor) r.units) k [] within ∙ get_or-drop (first - r.floor) r.units k []))
 
+-- slice `number` of a resource, if above 0, is the recording's unit `first + (number - 1)`
 pub unit_slice : (r : RecordingData) (first end number : ℕ) (found : Option (List ℕ)) → r.floor ≤ first → 0 < number → number ≤ end - first
     → found ≡ unit_at r (first + (number - 1))
     → unwrap_or found [] ≡ get_or (r.head ∷ units_between r.floor r.units first end) number []
@@ -40,6 +41,7 @@ unit_slice r first end number found kept some within is =
     ap (λ (o : Option (List ℕ)). unwrap_or o []) is ∙ unit_at_slice r first end (number - 1) kept (omega arith)
     ∙ sym (ap (λ n. get_or (r.head ∷ units_between r.floor r.units first end) n []) next)
 
+-- the units between two numbers are at most as many as the kept ones
 pub few_units : (r : RecordingData) (first end : ℕ) → length (units_between r.floor r.units first end) ≤ length r.units
 few_units r first end =
     omega (arith, length-take (end - first) (drop (first - r.floor) r.units), length-drop (first - r.floor) r.units)
@@ -58,6 +60,7 @@ long_slices r first end valid kept =
     length-append r.head (concat (units_between r.floor r.units first end))
     ∙ ap (λ n. length r.head + n) (sym (bytes_are r.facts r.floor r.units first end kept (have_lengths r valid)))
 
+-- a byte that is past the init section and the units is past the resource
 pub none_past : (r : RecordingData) (first end at : ℕ) → IsRecorded r → r.floor ≤ first → length r.head ≤ at → bytes_between r.facts first end ≤ at - length r.head
     → length (concat (r.head ∷ units_between r.floor r.units first end)) ≤ at
 none_past r first end at valid kept behind past = omega (arith, long_slices r first end valid kept, behind, past)
@@ -75,6 +78,7 @@ unit_between r first end at n low high there =
     ] in
     (up, down)
 
+-- a byte after the init section is in the slice of its unit, at its offset in that unit
 pub place_there : (r : RecordingData) (first end at n : ℕ) → IsRecorded r → r.floor ≤ first → length r.head ≤ at → at - length r.head < bytes_between r.facts first end
     → IsInUnit r (offset_at r first + (at - length r.head)) n
     → (first ≤ n) × IsPositionOf (r.head ∷ units_between r.floor r.units first end) at (n - first + 1) (offset_at r first + (at - length r.head) - offset_at r n)
@@ -99,9 +103,11 @@ place_there r first end at n valid kept behind inside there =
       },
     )
 
+-- the first unit's offset is the length of the init section
 init_offset : (r : RecordingData) → offset_at r 0 ≡ length r.head
 init_offset r = omega arith
 
+-- the same as `none_past`, with the init section's length and the units' bytes as they were read
 pub nothing_past : (r : RecordingData) (first end at init between : ℕ) → IsRecorded r → r.floor ≤ first → init ≡ offset_at r 0 → init ≤ at
     → between ≡ bytes_between r.facts first end → between ≤ at - init → length (concat (r.head ∷ units_between r.floor r.units first end)) ≤ at
 nothing_past r first end at init between valid kept init_is behind between_is past =
@@ -116,15 +122,17 @@ offset_small r n =
       | inr past ↦ (let same : offset_at r n ≡ total_of r = rw (take_all n r.facts past) refl in omega (arith, same))
     ]
 
+-- a byte at or after a kept unit's offset is at or after the first kept byte
 pub is_kept_byte : (r : RecordingData) (first from rest : ℕ) → r.floor ≤ first → from ≡ offset_at r first → offset_at r r.floor ≤ from + rest
 is_kept_byte r first from rest kept is = omega (arith, is, offsets_add r r.floor first kept)
 
+-- a byte within the units of a resource is before the end of the recording
 pub before_total : (r : RecordingData) (first end from rest between : ℕ) → from ≡ offset_at r first → between ≡ bytes_between r.facts first end → rest < between
     → from + rest < total_of r
 before_total r first end from rest between is between_is inside =
     omega (arith, is, between_is, inside, bytes_are_offsets r first end, offset_small r end)
 
--- the position, in terms of the numbers that were read
+-- the position of a byte after the init section, with the numbers as they were read
 pub place_is : (r : RecordingData) (first end at init from n unit between : ℕ) → IsRecorded r → r.floor ≤ first → init ≡ offset_at r 0 → init ≤ at
     → between ≡ bytes_between r.facts first end → at - init < between → from ≡ offset_at r first → IsInUnit r (from + (at - init)) n → unit ≡ offset_at r n
     → (first ≤ n) × IsPositionOf (r.head ∷ units_between r.floor r.units first end) at (n - first + 1) (from + (at - init) - unit)

@@ -20,7 +20,7 @@ use Rattle.hls_catchup.specs.Replies.{ReplyData}
 use Rattle.hls_catchup.specs.Resources.{parts_of}
 use Rattle.hls_catchup.specs.ReplyUnits.{AreReplyUnits}
 
--- a recording is that of a rendition of the channel
+-- a rendition with a recording is one of the channel
 pub lane_there : (s : State) (r : ℕ) (recorded : RecordingData) → recording_of s r ≡ Some recorded → r < length (channel s).lanes
 lane_there s r recorded is =
     elim (cases_lt r (length (channel s).lanes)) [
@@ -31,6 +31,7 @@ lane_there s r recorded is =
           cc)
     ]
 
+-- the units between the first and the last place of a right answer's table are kept, and are those of the reply
 pub span_is : (reply : ReplyData) (r : ℕ) (lists : Vec MediaPlaylist Global) (certificate : CertificateData) (span : ReplyUnits) →
     reply.cut_result ≡ Cut lists certificate → IsRightAnswer reply.state reply.request reply.cut_result → recording_of reply.state r ≡ Some span.recording.now →
     span.first ≡ first_fragment certificate.table r → span.end ≡ end_fragment certificate.table r → AreReplyUnits reply r span

@@ -17,15 +17,17 @@ use Rattle.hls_places_laws.specs.declared.place.Place.{Place}
 use Rattle.hls_catchup.specs.KeptPlaces.{places_and_floors_of}
 use Rattle.hls_catchup.specs.Requests.{AreRecordings}
 
+-- whether lane r is finished, false without such a lane, is entry r of the lanes' flags
 looked_up : (lanes : List Lane) (r : ℕ) → unwrap_or (option_map (λ (l : Lane). l.finished) (slice_get lanes r)) false ≡ get_or (map is_finished lanes) r false
 looked_up [] r = refl
 looked_up (l ∷ lanes) zero = refl
 looked_up (l ∷ lanes) (suc r) = looked_up lanes r
 
+-- whether rendition r is finished, false without such a rendition, is entry r of the lanes' flags
 pub finished_there : (s : State) (r : ℕ) → unwrap_or (finished_at s r) false ≡ get_or (map is_finished (channel s).lanes) r false
 finished_there s r = looked_up (channel s).lanes r
 
--- one more recording
+-- recordings of the first renditions, with that of the next one appended, are recordings of the renditions by their numbers
 pub one_recording_more : (s : State) (recordings : List (Bor RecordingData)) (recording : Bor RecordingData) →
     ((r : ℕ) (recorded : RecordingData) → slice_get (map (λ r. r.now) recordings) r ≡ Some recorded → recording_of s r ≡ Some recorded) →
     recording_of s (length recordings) ≡ Some recording.now →
@@ -41,6 +43,7 @@ one_recording_more s recordings recording before is r recorded at =
           ap (recording_of s) number ∙ is ∙ ap (λ (x : RecordingData). Some x) (sym new.1))
     ]
 
+-- recordings of the renditions by their numbers, as many as there are renditions, are those of the state
 pub are_recordings : (s : State) (recordings : List (Bor RecordingData)) → length recordings ≡ length s.config.renditions →
     ((r : ℕ) (recorded : RecordingData) → slice_get (map (λ r. r.now) recordings) r ≡ Some recorded → recording_of s r ≡ Some recorded) →
     AreRecordings s (map (λ r. r.now) recordings)
@@ -54,6 +57,7 @@ pub record IsOfLane (l : Lane) (recorded : RecordingData) : Type 0 where
   pub facts : recorded.facts ≡ l.facts
   pub floor : recorded.floor ≡ l.floor
 
+-- a recording that is made of a lane has the lane's facts and floor
 of_init : (o : Option InitData) (l : Lane) (h : HeldBytes) (recorded : RecordingData) → recorded_from o l h ≡ Some recorded → IsOfLane l recorded
 of_init None l h recorded is = cc
 of_init (Some init) l h recorded is =
@@ -61,20 +65,23 @@ of_init (Some init) l h recorded is =
     let same : made ≡ recorded = cc in
     record { facts = sym (ap (λ (x : RecordingData). x.facts) same); floor = sym (ap (λ (x : RecordingData). x.floor) same) }
 
+-- a rendition's recording has the facts and the floor of its lane
 of_lane : (s : State) (r : ℕ) (l : Lane) (recorded : RecordingData) → slice_get (channel s).lanes r ≡ Some l → recording_of s r ≡ Some recorded → IsOfLane l recorded
 of_lane s r l recorded at is =
     let there : recorded_at (Some l) (held_bytes s r) ≡ Some recorded = ap (λ o. recorded_at o (held_bytes s r)) (sym at) ∙ is in
     of_init l.init l (held_bytes s r) recorded there
 
--- a rendition that hasn't begun has no facts, and nothing of it is trimmed
+-- a lane without a recording has no init section
 no_init : (o : Option InitData) (l : Lane) (h : HeldBytes) → recorded_from o l h ≡ None → o ≡ None
 no_init None l h is = refl
 no_init (Some init) l h is = cc
 
+-- the lane has no facts, and nothing of it is trimmed
 record IsBare (l : Lane) : Type 0 where
   facts : l.facts ≡ []
   floor : l.floor ≡ 0
 
+-- a rendition that hasn't begun has no facts, and nothing of it is trimmed
 bare_lane : (s : State) → IsState s → (r : ℕ) (l : Lane) → r < length (channel s).lanes → slice_get (channel s).lanes r ≡ Some l → recording_of s r ≡ None → IsBare l
 bare_lane s valid r l within at unbegun =
     let there : recorded_at (Some l) (held_bytes s r) ≡ None = ap (λ o. recorded_at o (held_bytes s r)) (sym at) ∙ unbegun in
@@ -83,14 +90,14 @@ bare_lane s valid r l within at unbegun =
     let bare = (valid.fits r l bytes.0 at bytes.1).none none in
     record { facts = bare.0; floor = bare.1 }
 
--- and so there is no place
+-- if a rendition hasn't begun, there is no place
 pub no_places : (s : State) → IsState s → (r : ℕ) → r < length (channel s).lanes → recording_of s r ≡ None → places s ≡ []
 no_places s valid r within unbegun =
     let l = some_at (channel s).lanes r within in
     let empty : (source_at (sources s) r).facts ≡ [] = (source_of s r l.0 l.1).facts ∙ (bare_lane s valid r l.0 within l.1 unbegun).facts in
     after-without (sources s) r (omega (arith, sources_count s, within)) empty 0
 
--- lists whose elements, pairwise, map to the same values
+-- two lists of one length whose elements map to equal values one by one map to equal lists
 same_maps : {A B C : Type 0} (f : A → C) (g : B → C) (xs : List A) (ys : List B) → length xs ≡ length ys →
     ((r : ℕ) (x : A) (y : B) → slice_get xs r ≡ Some x → slice_get ys r ≡ Some y → f x ≡ g y) → map f xs ≡ map g ys
 same_maps f g [] [] count each = refl
@@ -99,19 +106,21 @@ same_maps f g (x ∷ xs) [] count each = absurd (omega arith)
 same_maps f g (x ∷ xs) (y ∷ ys) count each =
     ap (λ c. c ∷ map f xs) (each 0 x y refl refl) ∙ ap (λ cs. g y ∷ cs) (same_maps f g xs ys (omega arith) (λ r u v at_u at_v. each (suc r) u v at_u at_v))
 
+-- the facts of a state's recordings are those of its lanes
 pub same_facts : (s : State) (recordings : List RecordingData) → AreRecordings s recordings →
     map (λ (r : RecordingData). r.facts) recordings ≡ map facts_of (channel s).lanes
 same_facts s recordings are =
     same_maps (λ (r : RecordingData). r.facts) facts_of recordings (channel s).lanes are.count
     (λ r recorded l at there. (of_lane s r l recorded there (are.each r recorded at)).facts)
 
+-- the floors of a state's recordings are those of the state
 pub same_floors : (s : State) (recordings : List RecordingData) → AreRecordings s recordings →
     map (λ (r : RecordingData). r.floor) recordings ≡ floors s
 same_floors s recordings are =
     same_maps (λ (r : RecordingData). r.floor) floor_of recordings (channel s).lanes are.count
     (λ r recorded l at there. (of_lane s r l recorded there (are.each r recorded at)).floor)
 
--- one more rendition that is finished, or isn't
+-- all lanes from r on are finished if lane r is and all from r + 1 on are
 pub all_finished_from : (s : State) (r : ℕ) → r < length (channel s).lanes →
     list_all is_finished (drop r (channel s).lanes) ≡ (get_or (map is_finished (channel s).lanes) r false && list_all is_finished (drop (r + 1) (channel s).lanes))
 all_finished_from s r within =

@@ -31,6 +31,8 @@ placeless s request t none is =
     let few : length (kept_places s) ≡ 0 = ap (λ (ps : List Place). length (filter_kept (floors s) ps)) none in
     omega arith
 
+-- if a place that is by the start is put before others, the first place at or after the stop is as far from the last one by the
+-- start as it was
 apart-step : (start stop : ℕ) → start < stop → (p : Place) (ks : List Place) (a : ℕ) → first_after start ks ≡ a →
     first_after start (p ∷ ks) ≡ 1 + a → first_from stop (p ∷ ks) ≡ 1 + first_from stop ks →
     (1 ≤ first_after start ks → first_from stop ks ≡ (first_after start ks - 1) + first_from stop (drop (first_after start ks - 1) ks)) →
@@ -61,13 +63,14 @@ first-apart start stop order (p ∷ ks) some =
           apart-step start stop order p ks (first_after start ks) refl after from (first-apart start stop order ks))
     ]
 
--- what follows about the kept places from the searches
+-- the searches among all kept places agree with those from place n on, the last kept one by the start
 record AreApart (s : State) (request : Request) (n : ℕ) : Type 0 where
   some : 1 ≤ first_after request.start_us (kept_places s)
   rest : kept_places_from (places_and_floors_of s) n ≡ drop (first_after request.start_us (kept_places s) - 1) (kept_places s)
   to : first_from request.stop_us (kept_places s) ≡ (first_after request.start_us (kept_places s) - 1) + first_from request.stop_us (kept_places_from (places_and_floors_of s) n)
   long : length (kept_places s) ≡ (first_after request.start_us (kept_places s) - 1) + length (kept_places_from (places_and_floors_of s) n)
 
+-- if place n is the last kept one by the start, a search from it on finds the stop where a search of all kept places does
 are_apart : (s : State) (request : Request) (n : ℕ) → IsInRange s request → IsLastBy (places_and_floors_of s) request.start_us n → AreApart s request n
 are_apart s request n range last =
     let ks : List Place = kept_places s in
@@ -87,14 +90,17 @@ are_apart s request n range last =
 ordered : (s : State) → AreSources (sources s) → AreOrdered (length (sources s)) (kept_places s)
 ordered s are = filter-ordered (length (sources s)) (is_kept (floors s)) (places s) (places-ordered (sources s) are)
 
+-- the kept places of a state are places in order, with a spot for each rendition
 pub kept-are_places : (s : State) → AreSources (sources s) → ArePlaces (kept_places s)
 kept-are_places s are = ordered-places (length (sources s)) (kept_places s) are.some are.few (ordered s are)
 
+-- if the stop is after the last kept place, the fault is AfterRecording if all renditions are finished, and else NotYet
 past_shown : (s : State) (request : Request) (over : Bool) → all_finished s ≡ over → IsInRange s request →
     StopsLate (kept_places s) request.start_us request.stop_us → IsTableFor s request (Err (if over then AfterRecording else NotYet))
 past_shown s request true is range late = record { in_range = range; programme = (late, is) }
 past_shown s request false is range late = record { in_range = range; programme = (late, is) }
 
+-- if all kept places from the last one by the start on are before the stop, the fault is AfterRecording or NotYet
 pub past_all : (s : State) (request : Request) (n : ℕ) → AreSources (sources s) → IsInRange s request →
     IsLastBy (places_and_floors_of s) request.start_us n →
     length (kept_places_from (places_and_floors_of s) n) ≤ first_from request.stop_us (kept_places_from (places_and_floors_of s) n) →
@@ -105,6 +111,7 @@ past_all s request n are range last past =
     past_shown s request (all_finished s) refl range
     (stops-late (kept_places s) (kept-are_places s are) request.start_us request.stop_us apart.some late)
 
+-- if no kept place is by the start, the fault is BeforeRecording
 pub none_before : (s : State) (request : Request) → AreSources (sources s) → IsInRange s request →
     first_after request.start_us (kept_places s) ≡ 0 → IsTableFor s request (Err BeforeRecording)
 none_before s request are range none = record {
@@ -118,11 +125,12 @@ pub record IsCounted (s : State) (request : Request) (n count : ℕ) : Type 0 wh
   pub count_is : count ≡ first_from request.stop_us (kept_places_from (places_and_floors_of s) n) + 1
   pub there : count ≤ length (kept_places_from (places_and_floors_of s) n)
 
--- the number of places from the last one at or before the start to the first one at or after the stop
+-- a count of the kept places from n on is their number from the last one by the start to the first one at or after the stop
 count_is : (s : State) (request : Request) (n count : ℕ) → AreApart s request n → count ≡ first_from request.stop_us (kept_places_from (places_and_floors_of s) n) + 1 →
     first_from request.stop_us (kept_places s) + 1 - (first_after request.start_us (kept_places s) - 1) ≡ count
 count_is s request n count apart is = omega (arith, apart.to, apart.some)
 
+-- if a programme has more places than the limit, the fault is ProgrammeTooLong
 pub too_long : (s : State) (request : Request) (n count : ℕ) → AreSources (sources s) → IsInRange s request →
     IsCounted s request n count → place_limit < count → IsTableFor s request (Err ProgrammeTooLong)
 too_long s request n count are range counted long =
@@ -135,17 +143,20 @@ too_long s request n count are range counted long =
           range.order apart.some within (omega (arith, same, long));
     }
 
+-- if there is a kept place, it has a spot for each rendition of the channel
 renditions_are : (s : State) → AreSources (sources s) → 0 < length (kept_places s) → renditions_in (kept_places s) ≡ length s.config.renditions
 renditions_are s are some =
     ap length (table-place (kept_places s) 0) ∙ ((ordered s are).each 0 no_place some).place.count
     ∙ sources_count s ∙ lanes_count s.config s.log
 
+-- the last kept place by the start is before the first one at or after the stop
 start_before : (s : State) (request : Request) → IsInRange s request → 1 ≤ first_after request.start_us (kept_places s) →
     first_from request.stop_us (kept_places s) < length (kept_places s) →
     first_after request.start_us (kept_places s) - 1 < first_from request.stop_us (kept_places s)
 start_before s request range some within =
     omega (arith, start-before_stop request.start_us request.stop_us (kept_places s) range.order within)
 
+-- the kept places that were counted, if they are within the limit, are the programme of the request
 pub programme_there : (s : State) (request : Request) (p : Programme) → IsState s → AreSources (sources s) → IsInRange s request →
     p.places ≡ places_and_floors_of s → IsCounted s request p.from p.count → p.count ≤ place_limit → ArePlacesFor s request p
 programme_there s request p valid are range same_places counted few =

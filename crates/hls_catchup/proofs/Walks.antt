@@ -14,21 +14,27 @@ use Rattle.hls_core.specs.KeptPlaces.{IsLastKeptBy, NoKeptBy}
 use Rattle.hls_catchup.specs.KeptPlaces.{PlacesAndFloors, places_and_floors_of, all_kept_places, kept_places_from, IsLastBy}
 use Rattle.hls_catchup.proofs.Cited.{at_drop, kept-goes-on}
 
+-- a place that is kept is the first of the kept ones before the others
 pub kept-more : (floors : List ℕ) (p : Place) (ps : List Place) → is_kept floors p ≡ true → filter_kept floors (p ∷ ps) ≡ p ∷ filter_kept floors ps
 kept-more floors p ps is = cond-true (is_kept floors p) (p ∷ filter_kept floors ps) (filter_kept floors ps) is
 
+-- a place that isn't kept changes nothing of the kept ones
 pub kept-same : (floors : List ℕ) (p : Place) (ps : List Place) → is_kept floors p ≡ false → filter_kept floors (p ∷ ps) ≡ filter_kept floors ps
 kept-same floors p ps is = cond-false (is_kept floors p) (p ∷ filter_kept floors ps) (filter_kept floors ps) is
 
+-- if the first place is after the time, it is the first one after it
 pub after-here : (time : ℕ) (p : Place) (ps : List Place) → nat_lt time (time_of p) ≡ true → first_after time (p ∷ ps) ≡ 0
 after-here time p ps late = rw late refl
 
+-- if the first place isn't after the time, the first one after it is among the others
 pub after-later : (time : ℕ) (p : Place) (ps : List Place) → nat_lt time (time_of p) ≡ false → first_after time (p ∷ ps) ≡ 1 + first_after time ps
 after-later time p ps early = rw early refl
 
+-- if the first place is at or after the time, it is the first one that is
 from-here : (time : ℕ) (p : Place) (ps : List Place) → nat_le time (time_of p) ≡ true → first_from time (p ∷ ps) ≡ 0
 from-here time p ps late = rw late refl
 
+-- if the first place is before the time, the first one at or after it is among the others
 pub from-later : (time : ℕ) (p : Place) (ps : List Place) → nat_le time (time_of p) ≡ false → first_from time (p ∷ ps) ≡ 1 + first_from time ps
 from-later time p ps early = rw early refl
 
@@ -43,10 +49,11 @@ none-first floors time (p ∷ ps) each =
       | inr isnt ↦ ap (first_after time) (kept-same floors p ps isnt) ∙ rest
     ]
 
+-- these places with these floors
 abbrev of : List ℕ → List Place → PlacesAndFloors
 of floors ps = record { items = ps; floors = floors }
 
--- an additional first place that isn't kept changes nothing
+-- if place m is the last kept one by a time, it still is, one number later, after another place that isn't kept
 passed : (floors : List ℕ) (time : ℕ) (p : Place) (ps : List Place) (m : ℕ) → is_kept floors p ≡ false →
     IsLastBy (of floors ps) time m → IsLastBy (of floors (p ∷ ps)) time (suc m)
 passed floors time p ps m isnt last =
@@ -57,7 +64,7 @@ passed floors time p ps m isnt last =
       rest = rw same last.rest;
     }
 
--- nor does a kept one by the time
+-- if place m is the last kept one by a time, it still is, one number later, after another kept place by the time
 followed : (floors : List ℕ) (time : ℕ) (p : Place) (ps : List Place) (m : ℕ) → is_kept floors p ≡ true → nat_lt time (time_of p) ≡ false →
     IsLastBy (of floors ps) time m → IsLastBy (of floors (p ∷ ps)) time (suc m)
 followed floors time p ps m is early last =
@@ -72,7 +79,7 @@ followed floors time p ps m is early last =
       rest = rw (same, before) last.rest;
     }
 
--- the last one by the time
+-- a kept place by the time is the last one if no kept place after it is by the time
 here : (floors : List ℕ) (time : ℕ) (p : Place) (ps : List Place) → is_kept floors p ≡ true → nat_lt time (time_of p) ≡ false →
     first_after time (filter_kept floors ps) ≡ 0 → IsLastBy (of floors (p ∷ ps)) time 0
 here floors time p ps is early none =
@@ -86,12 +93,15 @@ here floors time p ps is early none =
       rest = rw (same, before) refl;
     }
 
+-- equal options have equal places
 some-is : (x y : Place) → Some x ≡ Some y → x ≡ y
 some-is x y is = cc
 
+-- None is no place
 none-there : (x : Place) → None ≡ Some x → ⊥
 none-there x is = cc
 
+-- a kept place is the last one by a time if all places up to it are by the time and all after it are later
 last-at : (floors : List ℕ) (time m : ℕ) (ps : List Place) (place : Place) → slice_get ps m ≡ Some place → is_kept floors place ≡ true →
     ((k : ℕ) (p : Place) → k < m + 1 → slice_get ps k ≡ Some p → time_of p ≤ time) →
     ((k : ℕ) (p : Place) → m + 1 ≤ k → slice_get ps k ≡ Some p → time < time_of p) → IsLastBy (of floors ps) time m
@@ -108,10 +118,11 @@ last-at floors time (suc m) (p ∷ ps) place at is early late =
       | inr isnt ↦ passed floors time p ps m isnt rest
     ]
 
--- the result of the search, along the kept places
+-- the place that the search found is the last kept one by the time
 pub last-is : (s : State) (time n : ℕ) → IsLastKeptBy s time n → IsLastBy (places_and_floors_of s) time n
 last-is s time n found = last-at (floors s) time n (places s) found.place found.there found.kept found.by.early found.by.late
 
+-- if no kept place is by a time, the first one after the time is the first of all
 pub none-is : (s : State) (time : ℕ) → NoKeptBy s time → first_after time (all_kept_places (places_and_floors_of s)) ≡ 0
 none-is s time none = none-first (floors s) time (places s) none
 
@@ -142,6 +153,8 @@ pub record AreSearched (s : State) (stop from before : ℕ) : Type 0 where
   pub first : first_from stop (kept_places_from (places_and_floors_of s) from) ≡ before + 1 - from
   pub long : length (kept_places_from (places_and_floors_of s) from) ≡ length (places s) - from
 
+-- if `from` is the last kept place by the start and `before` the last one before the stop, the first kept place at or after
+-- the stop is the one after `before`, if there is one
 pub are-searched : (s : State) → IsState s → (start stop from before : ℕ) → start < stop → IsLastKeptBy s start from → IsLastKeptBy s (stop - 1) before →
     AreSearched s stop from before
 are-searched s state start stop from before order begins ends =
@@ -164,7 +177,7 @@ are-searched s state start stop from before order begins ends =
       long = found.1 ∙ rest;
     }
 
--- one more kept place is copied
+-- if one more kept place is copied, the copies and those still to come are the same as before
 pub one_copy_more : (spots : List (List Spot)) (copy : List Spot) (count : ℕ) (floors : List ℕ) (p : Place) (ps : List Place) (whole : List (List Spot)) →
     length spots < count → is_kept floors p ≡ true → copy ≡ p.spots →
     spots ++ spots_of (take (count - length spots) (filter_kept floors (p ∷ ps))) ≡ whole →

@@ -21,5 +21,6 @@ pub record IsAccepted (c : CertificateData) : Type 0 where
   pub well_formed : (line : ℕ) → IsReadResult (text c) (Err (Form line)) → ⊥
   pub answer : (answer : Result Verdict CertFault) → IsCheckResult c answer → answer ≡ Ok (verdict_of c.shown)
 
+-- each valid certificate, printed, is read back as itself, and the checker accepts it
 abbrev pub GoodCertificatesAreAccepted : Type 0
 GoodCertificatesAreAccepted = (c : CertificateData) → IsCertificate c → IsGood c → IsAccepted c

@@ -33,7 +33,7 @@ pub record AreCovered (t : Table) (recordings : List RecordingData) : Type 0 whe
   pub renditions : length recordings ≡ t.renditions
   pub each : (r : ℕ) (recorded : RecordingData) → slice_get recordings r ≡ Some recorded → IsCovered t r recorded
 
--- the playlist of a plan in one rendition
+-- the right playlist of a plan in one rendition
 pub record IsRightList (epoch : Option ℤ) (recorded : RecordingData) (r : ℕ) (t : Table) (plan : List ℕ) (list : Playlist) : Type 0 where
   -- it is the VOD playlist with the plan's steps as segments, and it can be written
   pub is : list ≡ job_list epoch recorded r t plan
@@ -43,7 +43,7 @@ pub record IsRightList (epoch : Option ℤ) (recorded : RecordingData) (r : ℕ)
   -- the joined media are exactly the units of the programme
   pub media : joined_media list.segments (job_resource recorded r t) ≡ concat (programme_units recorded r t)
 
--- one for each rendition
+-- one right playlist for each rendition
 pub record AreRightLists (epoch : Option ℤ) (recordings : List RecordingData) (t : Table) (plan : List ℕ) (lists : List Playlist) : Type 0 where
   pub count : length lists ≡ t.renditions
   pub each : (r : ℕ) (recorded : RecordingData) (list : Playlist) → slice_get recordings r ≡ Some recorded → slice_get lists r ≡ Some list →

@@ -3,6 +3,7 @@ use Rattle.std.specs.Prelude.{ℕ, List, codes}
 use Rattle.hls_catchup.specs.declared.fault.CatchFault.{CatchFault}
 use Rattle.hls_catchup.specs.declared.fault.CatchFault.TheVariants.{BadRange, BadPreferred, BadCharge, BeforeRecording, NotYet, AfterRecording, ProgrammeTooLong, Memory}
 
+-- a fault's name as replies print it
 abbrev pub catch_fault_name : CatchFault → List ℕ
 catch_fault_name BadRange = codes "BadRange"
 catch_fault_name BadPreferred = codes "BadPreferred"

@@ -1,3 +1,5 @@
+-- The definitions of requests for programmes: kept places, the programme between two times, its table, right answers and their playlists, and the
+-- resource that a reply's units make up.
 pub mod KeptPlaces
 pub mod Programmes
 pub mod Play

@@ -26,7 +26,7 @@ requests_in (action.Ask request ∷ rest) = request ∷ requests_in rest
 abbrev pub state_before : ConfigData → List Action → ℕ → State
 state_before config actions k = replayed_state (first_state config) (events_in (take k actions))
 
--- one more answer, the right one
+-- one more answer is appended, which is the right one of the state to the request
 pub record AppendsAnswer (s : State) (request : Request) (before after : List (Result ReplyData CatchFault)) : Type 0 where
   pub answer : Result ReplyData CatchFault
   pub appended : after ≡ before ++ answer ∷ []

@@ -15,7 +15,7 @@ abbrev pub programme_table : State → Request → Programme → Table
 programme_table s request p =
     table_of (goal_for s request) (length s.config.renditions) (spots_of (take p.count (kept_places_from p.places p.from)))
 
--- the places of the table for a request
+-- the programme's places make the table for the request
 pub record ArePlacesFor (s : State) (request : Request) (p : Programme) : Type 0 where
   pub within : p.from ≤ length p.places.items
   pub defined : IsTableFor s request (Ok (programme_table s request p))

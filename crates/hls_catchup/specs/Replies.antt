@@ -14,6 +14,7 @@ pub record ReplyData : Type 0 where
   pub request : Request
   pub cut_result : CutResult
 
+-- a reply of the program, as data of the definitions
 abbrev pub model_of : Inside → ReplyData
 model_of r = record { state = r.snapshot.value; request = r.request; cut_result = r.cut_result }
 

@@ -28,7 +28,7 @@ CanPrefer s request = (1 ≤ request.preferred) × (request.preferred ≤ s.conf
 abbrev pub CanCharge : Request → Type 0
 CanCharge request = charge_of request.rule ≤ charge_limit
 
--- the goal for the segments
+-- the goal for the segments of a request: the channel's target duration, the preferred length and the charge
 abbrev pub goal_for : State → Request → Goal
 goal_for s request = goal_of s.config.target request.preferred request.rule
 
@@ -38,7 +38,7 @@ pub record IsInRange (s : State) (request : Request) : Type 0 where
   pub preferred : CanPrefer s request
   pub charge : CanCharge request
 
--- the result of the kept places of the state for a request that is in range
+-- the request is in range, and this is the result of its programme among the kept places of the state
 pub record HasTableOrFault (s : State) (request : Request) (found : Result Table ProgrammeFault) : Type 0 where
   pub in_range : IsInRange s request
   pub programme : IsProgramme (goal_for s request) (kept_places s) (all_finished s) request.start_us request.stop_us found

@@ -20,6 +20,7 @@ none_there row there = cc
 apart : (low high : ℕ) → low < high → (high == low) ≡ false
 apart low high below = ne_eqb high low (λ same. omega (arith, same))
 
+-- an id isn't equal to a greater one
 apart_below : (low high : ℕ) → low < high → (low == high) ≡ false
 apart_below low high below = ne_eqb low high (λ same. omega (arith, same))
 
@@ -29,11 +30,12 @@ later_at id [] at row later there = absurd (none_there row there)
 later_at id (first ∷ rows) zero row later there = subst (λ (r : JobRow). id < r.id) (same_row first row there) later.0
 later_at id (first ∷ rows) (suc at) row later there = later_at id rows at row later.1 there
 
--- if all ids are greater, no row has this one
+-- if all ids are greater, changing the job of this one changes nothing
 pub kept_with : (id : ℕ) (state : JobState) (rows : List JobRow) → AllByRecursion (λ later. id < later.id) rows → rows_with_state id state rows ≡ rows
 kept_with id state [] later = refl
 kept_with id state (row ∷ rows) later = rw (apart id row.id later.0) (ap (λ (rs : List JobRow). row ∷ rs) (kept_with id state rows later.1))
 
+-- if all ids are greater, removing the job of this one changes nothing
 pub kept_without : (id : ℕ) (rows : List JobRow) → AllByRecursion (λ later. id < later.id) rows → rows_without id rows ≡ rows
 kept_without id [] later = refl
 kept_without id (row ∷ rows) later = rw (apart id row.id later.0) (ap (λ (rs : List JobRow). row ∷ rs) (kept_without id rows later.1))

@@ -1,4 +1,4 @@
--- From what is found and changed among the rows to the clause of a call on the table.
+-- What is found and changed among the rows, as the clauses of calls on the table say it.
 use Rattle.std.proofs.Common.{◌≡◌, ℕ, suc, zero, ◌<◌, ◌≤◌, true, false, List, [], ◌∷◌, length, take, get_or, Some, refl, ap, subst, ◌∙◌, arith}
 use Rattle.std.specs.Prelude.{All, slice_get}
 use Rattle.std.specs.List.{AllByRecursion, remove}
@@ -22,6 +22,7 @@ one_row rows at a b first second = cc
 pub id_at : (rows : List JobRow) (id at : ℕ) (row : JobRow) → IsRowAt rows id at → slice_get rows at ≡ Some row → row.id ≡ id
 id_at rows id at row stands there = ap (λ (r : JobRow). r.id) (one_row rows at row stands.row there stands.there) ∙ stands.id_is
 
+-- the state of the row at the index of an id is that of the job of this id
 pub phase_there : (rows : List JobRow) (id at : ℕ) (row : JobRow) → HaveRisingIds rows → IsRowAt rows id at → slice_get rows at ≡ Some row → job_state_at id rows ≡ Some row.state
 phase_there rows id at row rising stands there =
     subst (λ (n : ℕ). job_state_at n rows ≡ Some row.state) (id_at rows id at row stands there) (phase_is rows at row rising there)
@@ -31,10 +32,12 @@ pub phase_read : (rows : List JobRow) (id at : ℕ) (row : JobRow) → HaveRisin
 phase_read rows id at row rising stands is =
     phase_there rows id at row rising stands (slice_get_read rows (length rows) at row refl stands.within is)
 
+-- setting the state of the row at the index of an id sets that of the job of this id
 pub changed_there : (rows then : List JobRow) (id at : ℕ) (state : JobState) → HaveRisingIds rows → IsRowAt rows id at → Sets rows at state then → then ≡ rows_with_state id state rows
 changed_there rows then id at state rising stands sets =
     subst (λ (n : ℕ). then ≡ rows_with_state n state rows) stands.id_is (sets stands.row stands.there ∙ set_is rows at stands.row state rising stands.there)
 
+-- removing the row at the index of an id removes the job of this id
 pub gone_there : (rows then : List JobRow) (id at : ℕ) → HaveRisingIds rows → IsRowAt rows id at → then ≡ remove rows at → then ≡ rows_without id rows
 gone_there rows then id at rising stands is =
     subst (λ (n : ℕ). then ≡ rows_without n rows) stands.id_is (is ∙ removed_is rows at stands.row rising stands.there)
@@ -62,6 +65,7 @@ next_there rows then at work rising waits begins = record {
   least = least_there rows at (waiting_row work) rising begins.waited waits.first;
 }
 
+-- starting the work at an index makes the job of its id run for its request, at the version of its snapshot
 pub runs_there : (rows then : List JobRow) (at : ℕ) (work : Work) → HaveRisingIds rows → Starts rows at work then
     → then ≡ rows_with_state work.id (Running (length work.snapshot.value.log) work.request) rows
 runs_there rows then at work rising begins =

@@ -11,7 +11,7 @@ use Rattle.hls_catchup.specs.declared.cut_result.CutResult.{CutResult}
 use Rattle.hls_jobs.specs.CertificateWriter.{rest_of_certificate}
 use Rattle.hls_catchup.specs.Jobs.Files.{certificate_of}
 
--- the places from one index up to another are written
+-- with the places up to index `stop` appended, the text so far and the rest are still the whole text
 pub places-on : (c : CertificateData) (places : List (List Spot)) (old new : List ℕ) (written from stop : ℕ) → places ≡ c.table.places → from ≡ min written (length places)
     → from ≤ stop → new ≡ old ++ text_of_lines (map place_line (slice_range places from stop)) → new ++ rest_of_certificate c stop ≡ old ++ rest_of_certificate c written
 places-on c places old new written from stop same from_is far is =
@@ -21,7 +21,7 @@ places-on c places old new written from stop same from_is far is =
     (sym (drop_split places from stop far) ∙ ap (λ (n : ℕ). drop n places) from_is ∙ drop_min written places)
     ∙ ap (λ (ps : List (List Spot)). old ++ text_of_lines (map place_line (drop written ps) ++ claim_lines c.shown)) same
 
--- all remaining places are written, and then the claim
+-- with all remaining places and then the claim appended, the text is the whole
 pub all-written : (c : CertificateData) (places : List (List Spot)) (old new all : List ℕ) (written from : ℕ) → places ≡ c.table.places → from ≡ min written (length places)
     → new ≡ old ++ text_of_lines (map place_line (slice_range places from (length places))) → all ≡ new ++ text_of_lines (claim_lines c.shown) → all ≡ old ++ rest_of_certificate c written
 all-written c places old new all written from same from_is is all_is =
@@ -34,7 +34,7 @@ all-written c places old new all written from same from_is is all_is =
     ∙ ap (λ (ps : List (List Spot)). old ++ text_of_lines (map place_line ps ++ claim_lines c.shown)) left
     ∙ ap (λ (ps : List (List Spot)). old ++ text_of_lines (map place_line (drop written ps) ++ claim_lines c.shown)) same
 
--- the head is written
+-- the head, followed by the rest from the first place on, is the certificate's text
 pub head-written : (cut : CutResult) (c : CertificateData) (out : List ℕ) → c ≡ certificate_of cut → out ≡ text_of_lines (head_lines c.table.goal c.table.renditions (length c.table.places))
     → out ++ rest_of_certificate (certificate_of cut) 0 ≡ text (certificate_of cut)
 head-written cut c out c_is is =

@@ -1,3 +1,5 @@
+-- The lemmas of this crate: rows of a table of jobs as they are added, found and removed, plans of programmes that are shared, and the texts of
+-- playlists and certificates.
 mod ByIds
 mod Valid
 mod Calls

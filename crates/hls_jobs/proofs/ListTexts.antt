@@ -12,6 +12,7 @@ use Rattle.hls_core_laws.specs.State.{State}
 use Rattle.hls_jobs.specs.Programmes.{list_count, list_count_in, programme_list, programme_list_file, programme_list_in}
 use Rattle.hls_jobs.specs.ProgrammeTexts.{AreLists}
 
+-- the bytes of a text
 abbrev pub items_of : Vec ℕ Global → List ℕ
 items_of text = text.items
 
@@ -19,13 +20,14 @@ items_of text = text.items
 abbrev pub AreListsSoFar : ReplyData → List (List ℕ) → Type 0
 AreListsSoFar reply texts = (r : ℕ) (text : List ℕ) → slice_get texts r ≡ Some text → programme_list_file reply r ≡ Some text
 
+-- an item of a list with one more is an item of the list, or the last one
 last-at : {A : Type 0} (xs : List A) (y : A) (k : ℕ) (x : A) → slice_get (xs ++ y ∷ []) k ≡ Some x → (slice_get xs k ≡ Some x) ⊎ ((k ≡ length xs) × (y ≡ x))
 last-at [] y zero x at = inr (refl, cc)
 last-at [] y (suc k) x at = cc
 last-at (z ∷ xs) y zero x at = inl at
 last-at (z ∷ xs) y (suc k) x at = elim (last-at xs y k x at) [ inl h ↦ inl h | inr h ↦ inr (ap suc h.0, h.1) ]
 
--- one more
+-- with the text of the next playlist added, each text is still that of the playlist of its number
 pub one_more : (reply : ReplyData) (texts : List (List ℕ)) (text : List ℕ) → AreListsSoFar reply texts → programme_list_file reply (length texts) ≡ Some text
     → AreListsSoFar reply (texts ++ text ∷ [])
 one_more reply texts text before is r found at =
@@ -34,12 +36,12 @@ one_more reply texts text before is r found at =
       | inr new ↦ ap (programme_list_file reply) new.0 ∙ is ∙ ap (λ (x : List ℕ). Some x) new.1
     ]
 
--- a reply has no more playlists than that
+-- from an answer's number of playlists on, no number has a playlist
 none_in : (s : State) (cut : CutResult) (r : ℕ) → list_count_in cut ≤ r → programme_list_in s cut r ≡ None
 none_in s (Cut lists certificate) r past = ap (option_map (λ (l : MediaPlaylist). media_text (programme_list s r certificate.table (playlist_of l)))) (slice_get_past lists.items r past)
 none_in s (NoCut certificate) r past = refl
 
--- .. and no fewer
+-- each number below an answer's number of playlists has a playlist
 some_in : (s : State) (cut : CutResult) (r : ℕ) → r < list_count_in cut → programme_list_in s cut r ≡ None → ⊥
 some_in s (Cut lists certificate) r small none =
     ⊎_elim
@@ -48,13 +50,15 @@ some_in s (Cut lists certificate) r small none =
     (slice_get_cases lists.items r).1
 some_in s (NoCut certificate) r small none = absurd (omega (arith, small))
 
+-- each number below a reply's number of playlists has a text
 pub some_below : (reply : ReplyData) (r : ℕ) → r < list_count reply → programme_list_file reply r ≡ None → ⊥
 some_below reply r small none = some_in reply.state reply.cut_result r small none
 
+-- from a reply's number of playlists on, no number has a text
 pub none_past : (reply : ReplyData) (r : ℕ) → list_count reply ≤ r → programme_list_file reply r ≡ None
 none_past reply r past = none_in reply.state reply.cut_result r past
 
--- each number has its text
+-- the text at each number is that of the reply's playlist of this number, if there is one
 pub lists_at : (reply : ReplyData) (lists : List (List ℕ)) (r : ℕ) → AreLists reply lists → slice_get lists r ≡ programme_list_file reply r
 lists_at reply lists r are =
     ⊎_elim

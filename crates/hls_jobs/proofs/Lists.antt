@@ -15,6 +15,7 @@ use Rattle.hls_catchup.specs.declared.cut_result.CutResult.TheVariants.{Cut}
 use Rattle.hls_catchup.specs.Requests.{IsRightAnswer}
 use Rattle.hls_catchup.specs.Answers.{ShowsCut}
 
+-- each playlist of a cut's answer can be written
 pub shows_text : (epoch : Option ℤ) (recordings : List RecordingData) (t : Table) (lists : List Playlist) (shown : ClaimData) (r : ℕ) (list : Playlist) → length recordings ≡ t.renditions
     → ShowsCut epoch recordings t lists shown → slice_get lists r ≡ Some list → HasText list
 shows_text epoch recordings t lists (CutClaim total plan prices) r list count shows there =
@@ -26,7 +27,7 @@ shows_text epoch recordings t lists (CutClaim total plan prices) r list count sh
     (slice_get_cases recordings r).1
 shows_text epoch recordings t lists (NoneClaim closed) r list count shows there = absurd shows
 
--- a playlist of a right answer
+-- each playlist of a right answer can be written
 pub list_has_text : (s : State) (request : Request) (cut_result : CutResult) (lists : Vec MediaPlaylist Global) (certificate : CertificateData) (r : ℕ) (list : MediaPlaylist)
     → IsRightAnswer s request cut_result → cut_result ≡ Cut lists certificate → slice_get lists.items r ≡ Some list → HasText (playlist_of list)
 list_has_text s request cut_result lists certificate r list right is there =
@@ -34,7 +35,7 @@ list_has_text s request cut_result lists certificate r list right is there =
     shows_text s.config.epoch cut.recordings cut.table (map playlist_of lists.items) certificate.shown r (playlist_of list) cut.covered.renditions cut.right.1
     (slice_get-map playlist_of lists.items r ∙ ap (option_map playlist_of) there)
 
--- the playlist that was read at a rendition's number
+-- a playlist that was read at a rendition's number is the one at that number
 pub list_there : (lists read : List MediaPlaylist) (rendition : ℕ) (list : MediaPlaylist) → read ≡ lists → rendition < length read → list ≡ get_or read rendition list →
     slice_get lists rendition ≡ Some list
 list_there lists read rendition list same within is =

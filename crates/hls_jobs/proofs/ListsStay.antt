@@ -23,7 +23,7 @@ use Rattle.hls_catchup.specs.declared.request.Request.{Request}
 use Rattle.hls_catchup.proofs.Callers.{before_same}
 use Rattle.hls_jobs.specs.Programmes.{bytes_ahead, bytes_before_unit, folder_above, list_above, programme_list, programme_list_in}
 
--- functions that agree on a value give the same of it
+-- two functions that agree on the value of an option map it to the same
 option_same : {A B : Type 0} (f g : A → B) (x : Option A) → ((y : A) → x ≡ Some y → f y ≡ g y) → option_map f x ≡ option_map g x
 option_same f g None each = refl
 option_same f g (Some y) each = ap Some (each y refl)
@@ -31,6 +31,7 @@ option_same f g (Some y) each = ap Some (each y refl)
 -- a playlist by paths
 module _ (a b : State) (ab : FollowsAsState a b) (request : Request) (t : Table) (recordings : List RecordingData) (are : AreRecordings a recordings) (was : IsTableFor a request (Ok t))
     (r : ℕ) (recorded : RecordingData) (at : slice_get recordings r ≡ Some recorded) where
+  -- the bytes that a path counts ahead are the same in both states
   ahead_same : bytes_ahead b r t ≡ bytes_ahead a r t
   ahead_same =
       let first : ℕ = first_fragment t r in
@@ -40,6 +41,7 @@ module _ (a b : State) (ab : FollowsAsState a b) (request : Request) (t : Table)
       ap (λ (n : ℕ). bytes_before_base b.config.base r + n) units
       ∙ ap (λ (c : ConfigData). bytes_before_base c.base r + bytes_before_unit (recording_of a r) first) ab.continues.config
 
+  -- a job's playlist has the same paths in both states
   list_same : (list : Playlist) → programme_list b r t list ≡ programme_list a r t list
   list_same list =
       ap (λ (n : ℕ). list_above (folder_above b.config.base r) n list) ahead_same
@@ -50,6 +52,7 @@ lists_count : (epoch : Option ℤ) (recordings : List RecordingData) (t : Table)
 lists_count epoch recordings t lists (CutClaim total plan prices) shows = shows.1.count
 lists_count epoch recordings t lists (NoneClaim closed) shows = absurd shows
 
+-- the texts of a right answer's playlists are the same in a later state of the same channel
 texts_stay : (a b : State) → FollowsAsState a b → (request : Request) (cut_result : CutResult) → IsRightAnswer a request cut_result → (r : ℕ) → programme_list_in b cut_result r ≡ programme_list_in a cut_result r
 texts_stay a b ab request (NoCut certificate) x r = refl
 texts_stay a b ab request (Cut lists certificate) x r =

@@ -17,6 +17,7 @@ run_byte_small b spelled = grind (arith, spelled)
 run_bytes_small : (name : List ℕ) → All (λ b. IsTrue (is_run_byte b)) name → All (λ b. b < 128) name
 run_bytes_small name spelled = search rules
 
+-- the text of a base's run is UTF-8
 pub run_utf8 : (base : BaseData) → IsBase base → IsUtf8 (run_text base.run)
 run_utf8 base is = IsUtf8-from_ascii (run_text base.run) (IsAscii-from_all (run_text base.run) (run_bytes_small (run_text base.run) is.run))
 

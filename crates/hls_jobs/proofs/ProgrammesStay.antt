@@ -23,29 +23,35 @@ use Rattle.hls_jobs.specs.ProgrammeLaws.{KeepsProgramme, ProgrammesStay}
 
 -- ---- the elements of a list that pass a test are its last
 
+-- place k of a list
 abbrev nth : List Place → ℕ → Place
 nth xs k = get_or xs k no_place
 
--- all after one that passes do
+-- each place after one that passes a test passes it, too
 abbrev pub Lasts : (Place → Bool) → List Place → Type 0
 Lasts test xs = (i j : ℕ) → i ≤ j → j < length xs → test (nth xs i) ≡ true → test (nth xs j) ≡ true
 
+-- the places that pass a test are those from number n on, and none before passes
 pub record IsBack (test : Place → Bool) (xs : List Place) (n : ℕ) : Type 0 where
   pub within : n ≤ length xs
   pub is : filter test xs ≡ drop n xs
+  -- the first place of the programme precedes the last one
   pub before : (k : ℕ) → k < n → test (nth xs k) ≡ false
 
+-- if each place passes a test, filtering by it changes nothing
 all-pass : (test : Place → Bool) (xs : List Place) → ((k : ℕ) → k < length xs → test (nth xs k) ≡ true) → filter test xs ≡ xs
 all-pass test [] each = refl
 all-pass test (x ∷ xs) each =
     cond-true (test x) (x ∷ filter test xs) (filter test xs) (each 0 (omega arith))
     ∙ ap (λ (ys : List Place). x ∷ ys) (all-pass test xs (λ k h. each (suc k) (omega (arith, h))))
 
+-- if a place fails a test and so do the first n after it, the first n + 1 fail
 next-fails : (test : Place → Bool) (x : Place) (xs : List Place) (n : ℕ) → test x ≡ false → ((k : ℕ) → k < n → test (nth xs k) ≡ false) →
     (k : ℕ) → k < suc n → test (nth (x ∷ xs) k) ≡ false
 next-fails test x xs n fails before zero h = fails
 next-fails test x xs n fails before (suc k) h = before k (omega (arith, h))
 
+-- if each place after one that passes does, the places that pass are those from some number on
 back : (test : Place → Bool) (xs : List Place) → Lasts test xs → (n : ℕ) × IsBack test xs n
 back test [] lasts = (0, record { within = omega arith; is = refl; before = λ k h. absurd (omega (arith, h)) })
 back test (x ∷ xs) lasts = elim (cases_Bool (test x)) [
@@ -75,6 +81,7 @@ back test (x ∷ xs) lasts = elim (cases_Bool (test x)) [
 abbrev Rise : List Place → Type 0
 Rise xs = (i j : ℕ) → i < j → j < length xs → time_of (nth xs i) < time_of (nth xs j)
 
+-- if times increase along places, an earlier place's time is at most a later one's
 rises-on : (xs : List Place) → Rise xs → (i j : ℕ) → i ≤ j → j < length xs → time_of (nth xs i) ≤ time_of (nth xs j)
 rises-on xs rise i j up h = elim (cases_lt i j) [
   | inl less ↦ (let r = rise i j less h in omega (arith, r))
@@ -111,9 +118,11 @@ module _ (xs more : List Place) (m n : ℕ) (rise : Rise (xs ++ more)) where
     whole : length all ≡ length xs + length more
     whole = length-append xs more
 
+    -- the first place of the programme is at its start or before it
     time-s : time_of (nth all (m + s)) ≤ start
     time-s = let by = is.begins.by in omega (arith, by, ap time_of (early-at s is.begins.there))
 
+    -- the last place of the programme is at its stop or after it
     time-e : stop ≤ time_of (nth all (m + e))
     time-e = let from = is.ends.from in omega (arith, from, ap time_of (early-at e is.ends.there))
 
@@ -142,6 +151,7 @@ module _ (xs more : List Place) (m n : ℕ) (rise : Rise (xs ++ more)) where
         ∙ early-at s is.begins.there)
 
     module _ (gone : n ≤ m + is.s) (same : renditions_in (drop m xs) ≡ renditions_in (drop n all)) where
+      -- in the later list, the programme begins at the same place
       begins : IsLastPlaceBy (drop n all) start (m + s - n)
       begins = record {
         there = (let there = is.ends.there in let less = before in omega (arith, there, less, long, longer, gone));
@@ -161,6 +171,7 @@ module _ (xs more : List Place) (m n : ℕ) (rise : Rise (xs ++ more)) where
             omega (arith, next, early, on, late);
       }
 
+      -- in the later list, the programme ends at the same place
       ends : IsFirstPlaceFrom (drop n all) stop (m + e - n)
       ends = record {
         there = (let there = is.ends.there in let less = before in omega (arith, there, less, long, longer, gone));
@@ -194,6 +205,7 @@ module _ (xs more : List Place) (m n : ℕ) (rise : Rise (xs ++ more)) where
           ∙ take-append-le (e + 1 - s) (drop (m + s) xs) more (omega (arith, there, less, long, left))
           ∙ ap (take (e + 1 - s)) (sym (drop-drop s m xs))
 
+      -- the later list has the same table for the programme, if none of its places is gone
       pub table-stays : IsProgrammeTable goal (drop n all) start stop t
       table-stays = record {
         s = m + s - n;
@@ -209,17 +221,21 @@ module _ (xs more : List Place) (m n : ℕ) (rise : Rise (xs ++ more)) where
 true-is : true ≡ false → ⊥
 true-is is = cc
 
+-- each number below that of the places of a state has its place
 some-place : (s : State) (k : ℕ) → k < length (places s) → slice_get (places s) k ≡ Some (nth (places s) k)
 some-place s k h = slice_get-get_or (places s) k no_place h
 
+-- all places of a state after a kept one are kept
 lasts : (s : State) → IsState s → Lasts (is_kept (floors s)) (places s)
 lasts s state i j up h is =
     kept-goes-on s state i j (nth (places s) i) (nth (places s) j) up (some-place s i (omega (arith, up, h))) (some-place s j h) is
 
+-- times increase along the places of a state
 rise : (s : State) → IsState s → Rise (places s)
 rise s state i j less h =
     times-rise s state i j (nth (places s) i) (nth (places s) j) less (some-place s i (omega (arith, less, h))) (some-place s j h)
 
+-- if a state has places from number n on, they have as many renditions as the channel
 renditions-of : (s : State) → IsState s → (n : ℕ) → n < length (places s) → renditions_in (drop n (places s)) ≡ length s.config.renditions
 renditions-of s state n h =
     let none : n + 0 ≡ n = omega arith in
@@ -235,18 +251,21 @@ module _ (a b : State) (request : Request) (t : Table) (ab : FollowsAsState a b)
   on : places b ≡ places a ++ more
   on = (places_follow a b (inr ab)).is
 
+  -- the kept places of the earlier state are those from some number on; so are those of the later one
   back-a : (n : ℕ) × IsBack (is_kept (floors a)) (places a) n
   back-a = back (is_kept (floors a)) (places a) (lasts a ab.earlier)
 
   back-b : (n : ℕ) × IsBack (is_kept (floors b)) (places b) n
   back-b = back (is_kept (floors b)) (places b) (lasts b ab.later)
 
+  -- the table of the programme, in the earlier state's places from that number on
   found : IsProgrammeTable (goal_for a request) (drop back-a.0 (places a)) request.start_us request.stop_us t
   found = subst (λ (ps : List Place). IsProgrammeTable (goal_for a request) ps request.start_us request.stop_us t) back-a.1.is is.programme.0
 
   rises : Rise (places a ++ more)
   rises = subst Rise on (rise b ab.later)
 
+  -- the first place of the programme is kept in the later state
   first-kept : is_kept (floors b) (nth (places b) (back-a.0 + found.s)) ≡ true
   first-kept =
       ap (λ (ps : List Place). is_kept (floors b) (nth ps (back-a.0 + found.s))) on
@@ -254,12 +273,14 @@ module _ (a b : State) (request : Request) (t : Table) (ab : FollowsAsState a b)
       (first-place (places a) more back-a.0 back-b.0 rises (goal_for a request) request.start_us request.stop_us is.in_range.order t found))
       ∙ keeps
 
+  -- no place of the programme is gone in the later state
   gone : back-b.0 ≤ back-a.0 + found.s
   gone = elim (cases_lt (back-a.0 + found.s) back-b.0) [
     | inl less ↦ absurd (true-is (sym first-kept ∙ back-b.1.before (back-a.0 + found.s) less))
     | inr up ↦ up
   ]
 
+  -- the kept places of both states have equally many renditions
   same : renditions_in (drop back-a.0 (places a)) ≡ renditions_in (drop back-b.0 (places a ++ more))
   same =
       let there = found.begins.there in
@@ -271,12 +292,14 @@ module _ (a b : State) (request : Request) (t : Table) (ab : FollowsAsState a b)
       ∙ sym (renditions-of b ab.later back-b.0 (omega (arith, there, left, whole, few)))
       ∙ ap (λ (ps : List Place). renditions_in (drop back-b.0 ps)) on
 
+  -- the later state has the same table for the programme
   table-b : IsProgrammeTable (goal_for a request) (kept_places b) request.start_us request.stop_us t
   table-b =
       subst (λ (ps : List Place). IsProgrammeTable (goal_for a request) ps request.start_us request.stop_us t)
       (ap (drop back-b.0) (sym on) ∙ sym back-b.1.is)
       (table-stays (places a) more back-a.0 back-b.0 rises (goal_for a request) request.start_us request.stop_us is.in_range.order t found gone same)
 
+  -- the later state has the same table for the request
   pub stays-after : HasTableOrFault b request (Ok t)
   stays-after =
       let config = sym ab.continues.config in
@@ -292,6 +315,7 @@ module _ (a b : State) (request : Request) (t : Table) (ab : FollowsAsState a b)
         );
       }
 
+-- a programme that a state has is the same in every state that follows, as long as its first place is kept
 pub programmes_stay : ProgrammesStay
 programmes_stay a b request t (inl equal) is keeps = subst (λ (s : State). IsTableFor s request (Ok t)) equal is
 programmes_stay a b request t (inr ab) is keeps = stays-after a b request t ab is keeps

@@ -1,4 +1,4 @@
--- From an unused job at an index to the clause of its removal.
+-- Removing the row of an unused job, as the clause of that call on the table says it.
 use Rattle.std.proofs.Common.{◌≡◌, ℕ, List, get_or, true, sym, subst, ◌∙◌}
 use Rattle.std.specs.List.{remove}
 use Rattle.std.proofs.lemmas.Option.{get_or_from_slice_get}
@@ -10,6 +10,7 @@ use Rattle.hls_jobs.specs.declared.last_uses.LastUse.{LastUse}
 use Rattle.hls_jobs.specs.LastUses.{IsUnusedAt, is_unused}
 use Rattle.hls_jobs.proofs.ByIds.{phase_is, removed_is}
 
+-- removing the row of an unused job at its index removes that job, and no other one
 pub removed_unused : (rows after : List JobRow) (uses : List LastUse) (age : JobAge) (at : ℕ) (removed : JobRow) → HaveRisingIds rows → IsUnusedAt rows uses age at
     → removed ≡ get_or rows at removed → after ≡ remove rows at
     → (is_unused uses age removed ≡ true) × HasJob removed.id rows × (after ≡ rows_without removed.id rows)

@@ -13,7 +13,7 @@ same_use first found is = cc
 none_there : (found : LastUse) → None ≡ Some found → ⊥
 none_there found there = cc
 
--- changing the first use of an id
+-- setting the first use of an id, given the uses before it, is replacing the last use of the id
 set_there : (uses : List LastUse) (id used_ms at : ℕ) (found : LastUse) → slice_get uses at ≡ Some found → found.id ≡ id → All (λ use_of. use_of.id ≢ id) (take at uses)
     → slice_set uses at (record { id = id; used_ms = used_ms }) ≡ with_use id used_ms uses
 set_there [] id used_ms at found there is first = absurd (none_there found there)
@@ -22,17 +22,18 @@ set_there (head ∷ uses) id used_ms (suc at) found there is first =
     rw (ne_eqb head.id id (All-head (λ (u : LastUse). u.id ≢ id) head (take at uses) first))
     (ap (λ (us : List LastUse). head ∷ us) (set_there uses id used_ms at found there is (All-tail (λ (u : LastUse). u.id ≢ id) head (take at uses) first)))
 
+-- setting the first use of an id at its index is replacing the last use of the id
 pub set_first : (uses : List LastUse) (id used_ms at : ℕ) → IsUseAt uses id at → slice_set uses at (record { id = id; used_ms = used_ms }) ≡ with_use id used_ms uses
 set_first uses id used_ms at found = set_there uses id used_ms at found.found found.there found.id_is found.first
 
--- the first use of an id comes last
+-- the first use that is noted of an id is added at the end
 pub first_use : (uses : List LastUse) (id used_ms : ℕ) → All (λ use_of. use_of.id ≢ id) uses → uses ++ record { id = id; used_ms = used_ms } ∷ [] ≡ with_use id used_ms uses
 first_use [] id used_ms others = refl
 first_use (head ∷ uses) id used_ms others =
     rw (ne_eqb head.id id (All-head (λ (u : LastUse). u.id ≢ id) head uses others))
     (ap (λ (us : List LastUse). head ∷ us) (first_use uses id used_ms (All-tail (λ (u : LastUse). u.id ≢ id) head uses others)))
 
--- removing the first use of an id
+-- removing the first use of an id, given the uses before it, is removing the id's use
 removed_there : (uses : List LastUse) (id at : ℕ) (found : LastUse) → slice_get uses at ≡ Some found → found.id ≡ id → All (λ use_of. use_of.id ≢ id) (take at uses)
     → remove uses at ≡ without_use id uses
 removed_there [] id at found there is first = absurd (none_there found there)
@@ -41,10 +42,11 @@ removed_there (head ∷ uses) id (suc at) found there is first =
     rw (ne_eqb head.id id (All-head (λ (u : LastUse). u.id ≢ id) head (take at uses) first))
     (ap (λ (us : List LastUse). head ∷ us) (removed_there uses id at found there is (All-tail (λ (u : LastUse). u.id ≢ id) head (take at uses) first)))
 
+-- removing the first use of an id at its index is removing the id's use
 pub removed_first : (uses : List LastUse) (id at : ℕ) → IsUseAt uses id at → remove uses at ≡ without_use id uses
 removed_first uses id at found = removed_there uses id at found.found found.there found.id_is found.first
 
--- an id without a use
+-- removing the use of an id that has none changes nothing
 pub kept_uses : (uses : List LastUse) (id : ℕ) → All (λ use_of. use_of.id ≢ id) uses → uses ≡ without_use id uses
 kept_uses [] id others = refl
 kept_uses (head ∷ uses) id others =

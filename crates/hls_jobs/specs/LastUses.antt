@@ -14,16 +14,17 @@ abbrev pub last_use : ℕ → List LastUse → Option ℕ
 last_use id [] = None
 last_use id (found ∷ uses) = cond (found.id == id) (Some found.used_ms) (last_use id uses)
 
--- with a use of the job, which replaces the last one
+-- the uses with one of this job, which replaces the job's last one
 abbrev pub with_use : ℕ → ℕ → List LastUse → List LastUse
 with_use id used_ms [] = record { id = id; used_ms = used_ms } ∷ []
 with_use id used_ms (found ∷ uses) = cond (found.id == id) (record { id = id; used_ms = used_ms } ∷ uses) (found ∷ with_use id used_ms uses)
 
--- without the job
+-- the uses without that of this job
 abbrev pub without_use : ℕ → List LastUse → List LastUse
 without_use id [] = []
 without_use id (found ∷ uses) = cond (found.id == id) uses (found ∷ without_use id uses)
 
+-- whether a job is finished or failed
 abbrev pub has_ended : JobState → Bool
 has_ended (Waiting snapshot request) = false
 has_ended (Running version request) = false
@@ -47,6 +48,7 @@ pub record IsUseAt (uses : List LastUse) (id at : ℕ) : Type 0 where
   pub id_is : found.id ≡ id
   pub first : All (λ use_of. use_of.id ≢ id) (take at uses)
 
+-- the index of the first use of this id, or none if there is no use of it
 abbrev pub IsUseFound : List LastUse → ℕ → Option ℕ → Type 0
 IsUseFound uses id found = MatchOption found (All (λ use_of. use_of.id ≢ id) uses) (IsUseAt uses id)
 
@@ -57,6 +59,7 @@ pub record IsUnusedAt (rows : List JobRow) (uses : List LastUse) (age : JobAge) 
   pub there : slice_get rows at ≡ Some row
   pub unused : is_unused uses age row ≡ true
 
+-- the index of an unused job, or none if no job is unused
 abbrev pub IsUnusedFound : List JobRow → List LastUse → JobAge → Option ℕ → Type 0
 IsUnusedFound rows uses age found = MatchOption found (All (λ row. is_unused uses age row ≡ false) rows) (IsUnusedAt rows uses age)
 

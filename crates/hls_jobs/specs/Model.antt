@@ -7,10 +7,11 @@ use Rattle.hls_catchup.specs.declared.fault.JobFault.{JobFault}
 use Rattle.hls_jobs.specs.declared.table.JobTable.TheInside.{Inside}
 use Rattle.hls_jobs.specs.declared.table.JobError.{JobError}
 
+-- the table of a representation
 abbrev pub model_of : Inside → JobTableData
 model_of t = record { next = t.next; rows = t.rows.items }
 
--- it is a table, with room for each job
+-- the representation is a table, with room for each job that there may be
 pub record IsSoundTable (t : Inside) : Type 0 where
   pub table : IsJobTable (model_of t)
   pub room : job_limit ≤ vec_capacity t.rows

@@ -15,10 +15,12 @@ use Rattle.hls_jobs.specs.declared.shared.NextWork.TheVariants as next
 abbrev pub plan_limit : ℕ
 plan_limit = 64
 
+-- the request of a plan
 abbrev pub planned_request : PlanRow → Request
 planned_request (rows.Waiting snapshot request) = request
 planned_request (rows.Running request) = request
 
+-- whether a plan waits for a planner
 abbrev pub is_waiting_plan : PlanRow → Bool
 is_waiting_plan (rows.Waiting snapshot request) = true
 is_waiting_plan (rows.Running request) = false
@@ -42,10 +44,11 @@ pub record IsPlanAt (request : Request) (plans : List PlanRow) (at : ℕ) : Type
   pub there : slice_get plans at ≡ Some row
   pub request_is : planned_request row ≡ request
 
+-- a plan for the request waits or runs
 abbrev pub HasPlan : Request → List PlanRow → Type 0
 HasPlan request plans = (at : ℕ) × IsPlanAt request plans at
 
--- none is
+-- no plan is for the request
 abbrev pub HasNoPlan : Request → List PlanRow → Type 0
 HasNoPlan request plans = All (λ row. planned_request row ≢ request) plans
 

@@ -6,7 +6,7 @@ use Rattle.hls_catchup.specs.Jobs.Files.{certificate_file}
 use Rattle.hls_jobs.specs.Programmes.{list_count, master_file, programme_list_file}
 use Rattle.hls_jobs.specs.declared.programme_texts.ProgrammeTexts.TheInside.{Inside}
 
--- the reply that was noted
+-- the reply that was noted first, if any was
 abbrev pub noted_reply : {A B : Type 0} → List (Arc ReplyData A × B) → Option ReplyData
 noted_reply [] = None
 noted_reply ((reply, n) ∷ others) = Some reply.value
@@ -24,11 +24,12 @@ pub record AreTextsOf (t : Inside) (reply : ReplyData) : Type 0 where
   pub lists : AreLists reply t.lists.items
   pub certificate : t.certificate ≡ certificate_file reply
 
+-- there is a reply, and the request and the texts are those of it
 abbrev pub AreTexts : Inside → Option ReplyData → Type 0
 AreTexts t None = ⊥
 AreTexts t (Some reply) = AreTextsOf t reply
 
--- it is a right reply to the request
+-- there is a reply, and it is a right one to the request
 abbrev pub IsReplyFor : Request → Option ReplyData → Type 0
 IsReplyFor request None = ⊥
 IsReplyFor request (Some reply) = IsRightReply reply.state request reply

@@ -23,7 +23,7 @@ use Rattle.hls_catchup.specs.Replies.{ReplyData}
 abbrev pub run_above : BaseData → List ℕ
 run_above base = codes "../../../" ++ run_text base.run
 
--- .. and that of a rendition's media
+-- the folder of a rendition's media in that run, seen from there
 abbrev pub folder_above : BaseData → ℕ → List ℕ
 folder_above base r = media_folder (run_above base) r
 
@@ -58,6 +58,7 @@ list_in folder segments list = record {
 abbrev pub list_above : List ℕ → ℕ → Playlist → Playlist
 list_above folder ahead list = list_in folder (map (segment_above folder ahead) list.segments) list
 
+-- a rendition's playlist of a job, by the paths of the channel's recordings
 abbrev pub programme_list : State → ℕ → Table → Playlist → Playlist
 programme_list s r t list = list_above (folder_above s.config.base r) (bytes_ahead s r t) list
 
@@ -67,6 +68,7 @@ programme_list_in s (Cut lists certificate) r =
     option_map (λ list. media_text (programme_list s r certificate.table (playlist_of list))) (slice_get lists.items r)
 programme_list_in s (NoCut certificate) r = None
 
+-- the text of a rendition's playlist in a reply; none if the programme has no plan, or there is no such rendition
 abbrev pub programme_list_file : ReplyData → ℕ → Option (List ℕ)
 programme_list_file reply r = programme_list_in reply.state reply.cut_result r
 
@@ -75,18 +77,20 @@ abbrev pub master_in : State → CutResult → Option (List ℕ)
 master_in s (Cut lists certificate) = players_master s false
 master_in s (NoCut certificate) = None
 
+-- the master playlist of a reply; none if the programme has no plan
 abbrev pub master_file : ReplyData → Option (List ℕ)
 master_file reply = master_in reply.state reply.cut_result
 
--- how many playlists there are
+-- how many playlists an answer has
 abbrev pub list_count_in : CutResult → ℕ
 list_count_in (Cut lists certificate) = length lists.items
 list_count_in (NoCut certificate) = 0
 
+-- how many playlists a reply has
 abbrev pub list_count : ReplyData → ℕ
 list_count reply = list_count_in reply.cut_result
 
--- its range, further by no more than a recording and what may precede it, has a path
+-- a range, if there is one, ends before byte 2 * 10^15, so it still has a path when it is moved by at most as many bytes
 abbrev pub HasPath : Option ByteRange → Type 0
 HasPath None = ⊤
 HasPath (Some range) = range.offset + range.length < 2000000000000000

@@ -13,6 +13,7 @@ pub record IsRowAt (rows : List JobRow) (id at : ℕ) : Type 0 where
   pub there : slice_get rows at ≡ Some row
   pub id_is : row.id ≡ id
 
+-- the index of the job of this id, or none if there is no such job
 abbrev pub IsRowFound : List JobRow → ℕ → Option ℕ → Type 0
 IsRowFound rows id found = MatchOption found (All (λ row. row.id ≢ id) rows) (IsRowAt rows id)
 
@@ -24,6 +25,7 @@ pub record WaitsAt (rows : List JobRow) (at : ℕ) : Type 0 where
   pub waits : is_waiting row.state ≡ true
   pub first : All (λ row. is_waiting row.state ≡ false) (take at rows)
 
+-- the index of the first waiting job, or none if no job waits
 abbrev pub IsFirstWaiting : List JobRow → Option ℕ → Type 0
 IsFirstWaiting rows found = MatchOption found (All (λ row. is_waiting row.state ≡ false) rows) (WaitsAt rows)
 
@@ -36,10 +38,11 @@ HasWaiting rows false = All (λ row. is_waiting row.state ≡ false) rows
 abbrev pub Sets : List JobRow → ℕ → JobState → List JobRow → Type 0
 Sets before at state after = (row : JobRow) → slice_get before at ≡ Some row → after ≡ slice_set before at (record { id = row.id; state = state })
 
--- the job of a work while it waits, and once it runs
+-- the job of a work while it waits
 abbrev pub waiting_row : Work → JobRow
 waiting_row work = record { id = work.id; state = Waiting work.snapshot work.request }
 
+-- the job of a work once it runs
 abbrev pub running_row : Work → JobRow
 running_row work = record { id = work.id; state = Running (length work.snapshot.value.log) work.request }
 

@@ -14,10 +14,12 @@ pub record AnsweredData : Type 0 where
   pub request : Request
   pub result : Result ReplyData CatchFault
 
+-- an answer of the program, as data of the definitions; a reply holds its own state and request
 abbrev pub answer_data : JobAnswerInner → AnsweredData
 answer_data (Replied reply) = record { state = reply.value.state; request = reply.value.request; result = Ok reply.value }
 answer_data (Refused snapshot request fault) = record { state = snapshot.value; request = request; result = Err fault }
 
+-- a job's answer of the program, as data of the definitions
 abbrev pub model_of : Inside → AnsweredData
 model_of a = answer_data a.inner
 

@@ -20,11 +20,11 @@ use Rattle.hls_catchup.specs.Jobs.Tables.{JobTableData, job_limit, id_limit, job
 abbrev pub with_job_state : JobTableData → ℕ → JobState → JobTableData
 with_job_state t id state = record { next = t.next; rows = rows_with_state id state t.rows }
 
--- no place is free, or the last id is used
+-- the table has no free place, or the last id is used
 abbrev pub IsFull : JobTableData → Type 0
 IsFull t = (job_limit ≤ length t.rows) ⊎ (t.next ≡ id_limit)
 
--- one more job, which waits under the next id; or there is no room
+-- adding a job: one more waits under the next id; or there is no room, and nothing changes
 abbrev pub Adds : JobTableData → Arc State Global → Request → Result ℕ JobFault → JobTableData → Type 0
 Adds t snapshot request (Ok id) after =
     (¬ IsFull t) × (id ≡ t.next)
@@ -39,7 +39,7 @@ pub record IsNext (rows : List JobRow) (work : Work) : Type 0 where
   pub waits : job_state_at work.id rows ≡ Some (Waiting work.snapshot work.request)
   pub least : AllByRecursion (λ row. is_waiting row.state ≡ true → work.id ≤ row.id) rows
 
--- the next job, which runs from then on; or no job waits
+-- taking a job: the next one runs from then on; or no job waits, and nothing changes
 abbrev pub Takes : JobTableData → Option Work → JobTableData → Type 0
 Takes t (Some work) after = IsNext t.rows work × (after ≡ with_job_state t work.id (Running (length work.snapshot.value.log) work.request))
 Takes t None after = AllByRecursion (λ row. is_waiting row.state ≡ false) t.rows × (after ≡ t)
@@ -50,7 +50,7 @@ pub record IsStray (f : FinishedData) (rows : List JobRow) : Type 0 where
   pub there : job_state_at f.id rows ≡ Some state
   pub other : ¬ IsRunningFor f.version f.request state
 
--- the job that runs for this version and this request has ended; or there is no such job
+-- ending a job: the one that runs for this version and this request has its answer; or there is none, and nothing changes
 abbrev pub Finishes : JobTableData → FinishedData → Result ⊤ JobFault → JobTableData → Type 0
 Finishes t f (Ok done) after = (job_state_at f.id t.rows ≡ Some (Running f.version f.request)) × (after ≡ with_job_state t f.id (state_of_answer f.answer))
 Finishes t f (Err UnknownJob) after = (job_state_at f.id t.rows ≡ None) × (after ≡ t)
@@ -63,7 +63,7 @@ pub record HasJob (id : ℕ) (rows : List JobRow) : Type 0 where
   pub state : JobState
   pub there : job_state_at id rows ≡ Some state
 
--- the job is removed; or there was none
+-- removing a job: it is gone; or there was none, and nothing changes
 abbrev pub Removes : {A : Type 0} → JobTableData → ℕ → Result A JobFault → JobTableData → Type 0
 Removes t id (Ok gone) after = HasJob id t.rows × (after ≡ record { next = t.next; rows = rows_without id t.rows })
 Removes t id (Err UnknownJob) after = (job_state_at id t.rows ≡ None) × (after ≡ t)
@@ -83,7 +83,7 @@ pub record HasAnswer (id : ℕ) (rows : List JobRow) : Type 0 where
   pub there : job_state_at id rows ≡ Some state
   pub finished : IsFinished state
 
--- the state of the job; or there is none. Only an answer can run out of memory
+-- Getting a job gives what is reported of it, or there is none. Only a job with an answer can run out of memory.
 abbrev pub Gets : JobTableData → ℕ → Result Job JobFault → Type 0
 Gets t id (Ok job) = IsReportedAs id t.rows job
 Gets t id (Err UnknownJob) = job_state_at id t.rows ≡ None

@@ -11,11 +11,12 @@ use Rattle.hls_catchup.specs.declared.cut_result.CutResult.{CutResult}
 use Rattle.hls_catchup.specs.declared.cut_result.CutResult.TheVariants.{Cut, NoCut}
 use Rattle.hls_catchup.specs.Replies.{ReplyData}
 
+-- the certificate of a cut result, with playlists or without
 abbrev pub certificate_of : CutResult → CertificateData
 certificate_of (Cut lists certificate) = certificate
 certificate_of (NoCut certificate) = certificate
 
--- the one text of its certificate
+-- the text of a reply's certificate
 abbrev pub certificate_file : ReplyData → List ℕ
 certificate_file reply = text (certificate_of reply.cut_result)
 
@@ -24,6 +25,7 @@ abbrev pub playlist_in : CutResult → ℕ → Option (List ℕ)
 playlist_in (Cut lists certificate) r = option_map (λ list. media_text (playlist_of list)) (slice_get lists.items r)
 playlist_in (NoCut certificate) r = None
 
+-- the same for the cut result of a reply
 abbrev pub playlist_file : ReplyData → ℕ → Option (List ℕ)
 playlist_file reply r = playlist_in reply.cut_result r
 
@@ -32,5 +34,6 @@ abbrev pub master_in : State → CutResult → Option (List ℕ)
 master_in s (Cut lists certificate) = Some (master_text (job_master s))
 master_in s (NoCut certificate) = None
 
+-- the same for a reply and its own state
 abbrev pub master_file : ReplyData → Option (List ℕ)
 master_file reply = master_in reply.state reply.cut_result

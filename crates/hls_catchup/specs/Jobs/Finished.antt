@@ -13,6 +13,7 @@ pub record FinishedData : Type 0 where
   pub request : Request
   pub answer : Result AnsweredData AllocError
 
+-- a finished job of the program, as data of the definitions
 abbrev pub model_of : Inside → FinishedData
 model_of f = record { id = f.id; version = f.version; request = f.request; answer = f.answer }
 
@@ -20,10 +21,11 @@ model_of f = record { id = f.id; version = f.version; request = f.request; answe
 abbrev pub IsAnswerFor : ℕ → Request → Result AnsweredData AllocError → Type 0
 IsAnswerFor version request answer = IfOk answer (λ a. (length a.state.log ≡ version) × (a.request ≡ request) × IsRight a)
 
+-- a job's answer is the right one for the version and the request for which it ran
 abbrev pub HasOwnAnswer : FinishedData → Type 0
 HasOwnAnswer f = IsAnswerFor f.version f.request f.answer
 
--- an answer is that of the work's own state
+-- an answer is the right one of the work's own state to its request
 abbrev pub IsAnswerTo : Work → Result AnsweredData AllocError → Type 0
 IsAnswerTo work answer = IfOk answer (λ a. (a.state ≡ work.snapshot.value) × (a.request ≡ work.request) × IsRight a)
 

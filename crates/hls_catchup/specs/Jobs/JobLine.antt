@@ -15,26 +15,29 @@ use Rattle.hls_catchup.specs.Jobs.Files.{certificate_of}
 abbrev pub served_version : State → ℕ
 served_version s = s.config.base.version + length s.log
 
--- a version, and the line's end
+-- the end of a line: the version, and LF
 abbrev pub version_end : ℕ → List ℕ
 version_end version = codes " version " ++ decimal version ++ codes "\n"
 
--- a plan with its cost, or that there is none
+-- the line of a claim: the cost of a plan, or that there is none, and the version
 abbrev pub shown_line : ClaimData → ℕ → List ℕ
 shown_line (CutClaim total plan prices) version = codes "cut " ++ decimal total ++ version_end version
 shown_line (NoneClaim closed) version = codes "none" ++ version_end version
 
+-- the line of a reply: the cost of its plan, or that there is none, and the version
 abbrev pub reply_line : ReplyData → ℕ → List ℕ
 reply_line reply version = shown_line (certificate_of reply.cut_result).shown version
 
+-- the line of an answer: that of a reply, or the fault's name with the version
 abbrev pub result_line : Result ReplyData CatchFault → ℕ → List ℕ
 result_line (Ok reply) version = reply_line reply version
 result_line (Err fault) version = codes "refused " ++ catch_fault_name fault ++ version_end version
 
+-- the line of an answered request, with the version of the state that answered
 abbrev pub answer_line : AnsweredData → List ℕ
 answer_line a = result_line a.result (served_version a.state)
 
--- none if memory ran out
+-- the line of a job's status; none if memory ran out
 abbrev pub job_line : Job → Option (List ℕ)
 job_line Waiting = Some (codes "waiting\n")
 job_line Running = Some (codes "running\n")

@@ -8,16 +8,18 @@ use Rattle.hls_catchup.specs.declared.jobs.job.JobState.{JobState}
 use Rattle.hls_catchup.specs.declared.jobs.job.JobState.TheVariants.{Waiting, Running, Finished, Failed}
 use Rattle.hls_catchup.specs.Jobs.Answers.{AnsweredData, IsRight}
 
+-- the job hasn't begun
 abbrev pub is_waiting : JobState → Bool
 is_waiting (Waiting snapshot request) = true
 is_waiting (Running version request) = false
 is_waiting (Finished answered) = false
 is_waiting Failed = false
 
--- it runs for this version and this request
+-- the job runs for this version and this request
 abbrev pub IsRunningFor : ℕ → Request → JobState → Type 0
 IsRunningFor version request state = state ≡ Running version request
 
+-- the job has an answer
 abbrev pub IsFinished : JobState → Type 0
 IsFinished (Waiting snapshot request) = ⊥
 IsFinished (Running version request) = ⊥

@@ -14,7 +14,7 @@ pub record JobTableData : Type 0 where
 abbrev pub job_limit : ℕ
 job_limit = 64
 
--- the number after the last id
+-- the number after the last id, 2^53
 abbrev pub id_limit : ℕ
 id_limit = 2 ^ 53
 
@@ -23,7 +23,7 @@ abbrev pub HaveRisingIds : List JobRow → Type 0
 HaveRisingIds [] = ⊤
 HaveRisingIds (row ∷ rows) = AllByRecursion (λ later. row.id < later.id) rows × HaveRisingIds rows
 
--- an id that was used
+-- a job's id is at least 1 and below the next one
 abbrev pub IsUsed : ℕ → JobRow → Type 0
 IsUsed next row = (1 ≤ row.id) × (row.id < next)
 
@@ -49,5 +49,6 @@ rows_with_state id state rows = map (λ row. if row.id == id then record { id = 
 abbrev pub rows_without : ℕ → List JobRow → List JobRow
 rows_without id rows = filter (λ row. not (row.id == id)) rows
 
+-- a table without jobs, whose first id will be 1
 abbrev pub empty_table : JobTableData
 empty_table = record { next = 1; rows = [] }

@@ -1,3 +1,4 @@
+-- By whether the table has a plan; the certificate of either case is accepted because it is good.
 use Rattle.std.proofs.Common.{◌≡◌, ◌∙◌, ap, map}
 use Rattle.hls_m3u8.specs.Playlist.{playlist_of}
 use Rattle.hls_plan.specs.Planned.{certificate_of}

@@ -1,3 +1,5 @@
+-- If a request's table could be made, all renditions have recordings, and these have all units in the table; so the programme is cut, and the
+-- answer is right. Without recordings there would be no place and no table.
 use Rattle.std.proofs.Common.{◌≡◌, Some, List, [], Option, Vec, Global, Bor, map, sym, ap, ◌∙◌, subst}
 use Rattle.std.specs.Prelude.{MatchOption}
 use Rattle.hls_record.specs.RecordingData.{RecordingData}
@@ -9,6 +11,7 @@ use Rattle.hls_catchup.proofs.Covered.{table-covered, right_answer}
 use Rattle.hls_catchup.proofs.Tables.{placeless}
 use Rattle.hls_catchup.proofs.cut_request.cut_request.Goals as goal
 
+-- either there are recordings of all renditions, or one hasn't begun and there is no place
 abbrev Found : State → Option (Vec (Bor RecordingData) Global) → Type 0
 Found s found = MatchOption found (places s ≡ []) (λ v. AreRecordings s (map (λ r. r.now) v.items))
 
@@ -17,7 +20,7 @@ unreachable-requires c =
     placeless c.args.snapshot.now c.args.request c.in-Ok.table
     (subst (Found c.args.snapshot.now) c.in_default.is c.in_ok-recordings-in-Ok.ensures) c.in-Ok.ensures
 
--- the recordings that were found, read as a slice
+-- recordings that were found are those of all renditions, also if they are read as a slice
 read : (s : State) (found : Option (Vec (Bor RecordingData) Global)) (v : Vec (Bor RecordingData) Global) (items : List (Bor RecordingData)) →
     found ≡ Some v → items ≡ v.items → Found s found → AreRecordings s (map (λ r. r.now) items)
 read s found v items is items_are there =

@@ -1,3 +1,4 @@
+-- The text of a valid certificate has no wrong line and is read as that certificate alone, and the checker's only result for it is acceptance.
 use Rattle.std.proofs.Common.{Ok, refl, sym}
 use Rattle.hls_check_tables.specs.Certificates.{ClaimData, CutClaim, NoneClaim, IsGoodOver}
 use Rattle.hls_check_tables.specs.Tables.{Table}
@@ -5,6 +6,7 @@ use Rattle.hls_check.specs.CheckResults.{CheckResultOver}
 use Rattle.hls_catchup.specs.AcceptedLaw.{verdict_of}
 use Rattle.hls_catchup.proofs.laws.good_certificates_are_accepted.Goals as goal
 
+-- for a good claim over a table, its acceptance is a result of the checker
 good_answer : (t : Table) (shown : ClaimData) → IsGoodOver t shown → CheckResultOver t shown (Ok (verdict_of shown))
 good_answer t (CutClaim total plan prices) good = (refl, good)
 good_answer t (NoneClaim closed) good = good

@@ -1,3 +1,5 @@
+-- The place after the last one before the stop is the first one at or after it, so the count ends there; the difference doesn't underflow. If
+-- there is no place after it, there is no count.
 use Rattle.std.proofs.Common.{◌≡◌, length, arith, ap, ◌∙◌}
 use Rattle.hls_blocks.specs.Numbered.{next_of}
 use Rattle.hls_core_laws.specs.Places.{places}

@@ -1,3 +1,4 @@
+-- By whether a kept place is by the start, whether one is at or after the stop, and whether the places are within the limit.
 use Rattle.hls_catchup.proofs.Walks.{last-is, none-is}
 use Rattle.hls_catchup.proofs.Tables.{none_before, past_all, too_long, programme_there}
 use Rattle.hls_catchup.proofs.programme.find_places.Goals as goal

@@ -1,3 +1,4 @@
+-- By whether the next rendition is finished, or none is left.
 use Rattle.std.proofs.Common.{◌≡◌, ◌+◌, drop, true, false, ◌&&◌, arith, rules, ap, sym, ◌∙◌}
 use Rattle.std.specs.List.{list_all}
 use Rattle.std.proofs.lemmas.List.{at_drop_all}

@@ -1,3 +1,4 @@
+-- Before each round, the renditions so far are finished: all are exactly if the remaining ones are.
 use Rattle.std.proofs.Common.{◌≡◌, drop}
 use Rattle.std.specs.List.{list_all}
 use Rattle.hls_core_laws.specs.State.{channel}

@@ -1,3 +1,5 @@
+-- After one more recording is pushed, the list still has the recordings of the renditions so far; at the end it has those of all. If a rendition
+-- has none, the state has no places.
 use Rattle.std.proofs.Common.{◌∷◌, [], arith, ap, sym, ◌∙◌, length-append}
 use Rattle.hls_core.specs.Getters.{recording_of}
 use Rattle.hls_catchup.proofs.States.{no_places, one_recording_more, are_recordings}

@@ -1,3 +1,4 @@
+-- Before each round, the list has one recording for each rendition so far, and each is that rendition's recording in the snapshot.
 use Rattle.std.proofs.Common.{◌≡◌, ℕ, length, map, Some}
 use Rattle.std.specs.Prelude.{slice_get}
 use Rattle.hls_record.specs.RecordingData.{RecordingData}

@@ -1,3 +1,4 @@
+-- A rendition is finished exactly if its lane in the channel is; one that doesn't exist isn't finished.
 use Rattle.std.proofs.Common.{◌∙◌, ap, false}
 use Rattle.std.specs.Prelude.{unwrap_or}
 use Rattle.hls_catchup.proofs.States.{finished_there}

@@ -1,3 +1,4 @@
+-- The first and the last place of the certificate's table say which units of the recording are the reply's.
 use Rattle.std.proofs.Common.{◌≡◌, ◌-◌, List, length, Some, ap, sym, ◌∙◌}
 use Rattle.hls_check_tables.specs.declared.spot.Spot.{Spot}
 use Rattle.hls_check_tables.specs.Tables.{Table, spot_in, place_at}

@@ -1,3 +1,4 @@
+-- A byte after the init section is in the unit that the recording has at the later offset.
 use Rattle.std.proofs.Common.{arith, refl}
 use Rattle.hls_catchup.proofs.Slices.{before_total, is_kept_byte, nothing_past, place_is}
 use Rattle.hls_catchup.proofs.resource.locate_resource_byte.Goals as goal

@@ -1,3 +1,4 @@
+-- If the recording has no unit for a slice's number, the resource has no bytes under that number either.
 use Rattle.std.proofs.Common.{None, arith}
 use Rattle.hls_catchup.proofs.Slices.{unit_slice}
 use Rattle.hls_catchup.proofs.resource.resource_slice.Goals as goal

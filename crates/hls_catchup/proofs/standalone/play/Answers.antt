@@ -1,3 +1,4 @@
+-- By whether the action is an event or a request.
 use Rattle.hls_catchup.proofs.Plays.{event_played, ask_played, all_played}
 use Rattle.hls_catchup.proofs.standalone.play.Goals as goal
 use Rattle.hls_catchup.proofs.standalone.play.Goals.{in-Event+in_ok-state-in-Event, in-Ask+in_ok-push_answer-in-Ask}

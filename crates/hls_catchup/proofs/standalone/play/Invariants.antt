@@ -1,3 +1,4 @@
+-- Before each round, the state and the answers so far are those to which the actions so far lead.
 use Rattle.hls_catchup.proofs.Plays.{IsPlayedTo}
 use Rattle.hls_catchup.proofs.standalone.play.Given as goal
 

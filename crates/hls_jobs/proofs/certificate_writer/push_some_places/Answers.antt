@@ -1,3 +1,4 @@
+-- After more places are written, the text so far and the rest of the certificate are still its whole text.
 use Rattle.std.proofs.Common.{◌≤◌, ◌∙◌, ap, rules}
 use Rattle.hls_check_tables.specs.Tables.{Table}
 use Rattle.hls_jobs.proofs.CertificateTexts.{places-on}

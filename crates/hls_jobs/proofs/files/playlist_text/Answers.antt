@@ -1,3 +1,4 @@
+-- By the lookup of the rendition's number among a right answer's playlists: all can be written.
 use Rattle.std.proofs.Common.{◌≡◌, List, Some, None, sym, ap, ◌∙◌, subst}
 use Rattle.std.specs.Prelude.{option_map, slice_get}
 use Rattle.std.proofs.lemmas.Option.{slice_get_past}

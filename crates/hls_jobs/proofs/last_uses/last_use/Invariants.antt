@@ -1,3 +1,4 @@
+-- Before each round, none of the uses so far is of this job: the remaining ones give the same result as all.
 use Rattle.std.proofs.Common.{◌≡◌, drop}
 use Rattle.hls_jobs.specs.LastUses.{last_use}
 use Rattle.hls_jobs.proofs.last_uses.last_use.Given as goal

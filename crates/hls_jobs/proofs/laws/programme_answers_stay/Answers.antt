@@ -1,3 +1,5 @@
+-- A right answer to a request for a programme stays right in each state that follows and keeps the programme's beginning, and its playlists and
+-- certificate stay the same.
 use Rattle.hls_jobs.proofs.ListsStay.{lists_stay}
 use Rattle.hls_jobs.proofs.ProgrammesStay.{programmes_stay}
 use Rattle.hls_jobs.proofs.laws.programme_answers_stay.Goals as goal

@@ -1,3 +1,5 @@
+-- The path is the folder followed by the offsets of the range's first and last byte, both `ahead` bytes further, with a hyphen between them and
+-- `.m4s` at the end.
 use Rattle.std.proofs.Common.{◌≡◌, ◌∙◌, ℕ, ◌+◌, ◌-◌, List, [], ◌∷◌, ◌++◌, IfOk, ap, subst, sym, append_assoc}
 use Rattle.std.specs.Fmt.{decimal}
 use Rattle.hls_jobs.proofs.programme_files.path_in.Goals as goal

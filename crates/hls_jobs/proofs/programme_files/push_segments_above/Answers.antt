@@ -1,3 +1,4 @@
+-- After the lines of one more segment under its path, the text so far and that of the remaining segments are still the whole text.
 use Rattle.std.proofs.Common.{◌++◌, ap, sym, ◌∙◌, rules}
 use Rattle.hls_m3u8.specs.declared.playlist.MediaSegment.{MediaSegment}
 use Rattle.hls_m3u8.specs.Lines.{segment_lines, text_of_lines}

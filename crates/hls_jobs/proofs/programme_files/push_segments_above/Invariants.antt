@@ -1,3 +1,4 @@
+-- Before each round, the text so far and the lines of the remaining segments, under their paths, are the text of all segments.
 use Rattle.std.proofs.Common.{◌≡◌, ◌++◌, drop, map}
 use Rattle.hls_m3u8.specs.Lines.{text_of_lines, all_segment_lines}
 use Rattle.hls_jobs.specs.Programmes.{segment_above}

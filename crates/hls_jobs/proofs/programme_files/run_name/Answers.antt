@@ -1,3 +1,4 @@
+-- The name of a run, copied without the zero bytes that fill it up, is valid UTF-8.
 use Rattle.std.proofs.Common.{◌∙◌, subst, sym}
 use Rattle.std.specs.Prelude.{IsUtf8}
 use Rattle.hls_jobs.proofs.PathTexts.{run_utf8}

@@ -1,3 +1,4 @@
+-- The head, the segments under their paths, `ahead` bytes further, and the end together are the text of the job's playlist by paths.
 use Rattle.std.proofs.Common.{List, ◌++◌, ap, ◌∙◌, map}
 use Rattle.hls_m3u8.specs.declared.playlist.MediaSegment.{MediaSegment}
 use Rattle.hls_m3u8.specs.Playlist.{Playlist, playlist_of}

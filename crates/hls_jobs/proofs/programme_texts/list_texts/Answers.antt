@@ -1,3 +1,4 @@
+-- Each step adds the text of the next playlist, up to the number of playlists.
 use Rattle.std.proofs.Common.{◌∙◌, ◌∷◌, [], Some, arith, ap, sym, length-append}
 use Rattle.std.specs.Prelude.{option_map}
 use Rattle.hls_jobs.specs.Programmes.{programme_list_file}

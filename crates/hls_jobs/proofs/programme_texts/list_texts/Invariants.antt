@@ -1,3 +1,4 @@
+-- Before each round, there are as many texts as renditions passed, and each is the text of its rendition's playlist.
 use Rattle.std.proofs.Common.{◌≡◌, length}
 use Rattle.hls_jobs.proofs.ListTexts.{AreListsSoFar}
 use Rattle.hls_jobs.proofs.programme_texts.list_texts.Given as goal

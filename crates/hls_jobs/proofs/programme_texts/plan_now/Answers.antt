@@ -1,3 +1,5 @@
+-- The result is the texts for the request, which are never missing; so it is what some table of plans, even an empty one, may have for the
+-- request.
 use Rattle.std.proofs.Common.{[]}
 use Rattle.hls_jobs.proofs.programme_texts.plan_now.Goals as goal
 

@@ -1,3 +1,4 @@
+-- If the request has a right answer, the texts that are made of it are those for the request.
 use Rattle.hls_jobs.proofs.KeptTexts.{texts_for}
 use Rattle.hls_jobs.proofs.programme_texts.plan_texts.Goals as goal
 

@@ -1,3 +1,5 @@
+-- The places that are taken from the snapshot are all places since the first one, and their numbers fit. They are the state's places, with the
+-- floors of its recordings.
 use Rattle.std.proofs.Common.{◌≡◌, arith, ap}
 use Rattle.hls_places_laws.specs.declared.place.Place.{Place}
 use Rattle.hls_blocks.specs.Numbered.{Numbered}

@@ -1,3 +1,4 @@
+-- A kept place's spots are appended to the copies; a place that isn't kept changes nothing.
 use Rattle.std.proofs.Common.{◌≡◌, ◌∷◌, ◌++◌, ◌-◌, List, length, take, true, arith, ap, sym, ◌∙◌}
 use Rattle.hls_check_tables.specs.declared.spot.Spot.{Spot}
 use Rattle.hls_places_laws.specs.declared.place.Place.{Place}

@@ -1,3 +1,4 @@
+-- Before each round, the copies so far, and those of the kept places in the remaining walk up to the count, are the copies that are wanted.
 use Rattle.std.proofs.Common.{◌≡◌, ◌-◌, ◌++◌, length, take}
 use Rattle.hls_places_laws.specs.Order.{spots_of}
 use Rattle.hls_places_laws.specs.Programmes.{filter_kept}

@@ -1,3 +1,4 @@
+-- The text so far, the places that aren't written yet, and the claim together are the certificate's whole text.
 use Rattle.std.proofs.Common.{◌∙◌, ◌++◌, ap}
 use Rattle.hls_check_tables.specs.Certificates.{CertificateData}
 use Rattle.hls_check_tables.specs.Tables.{Table}

@@ -1,3 +1,4 @@
+-- The head that is written, and all places and the claim that remain, are the text of the reply's certificate.
 use Rattle.std.proofs.Common.{◌∙◌, ℕ, List, ◌++◌, length, ap}
 use Rattle.hls_check_tables.specs.Tables.{Table}
 use Rattle.hls_check.specs.Text.{head_lines}

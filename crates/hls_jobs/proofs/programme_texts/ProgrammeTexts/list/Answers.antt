@@ -1,3 +1,4 @@
+-- The text kept for a rendition is that of its playlist in the reply, or none if the reply has no such playlist.
 use Rattle.std.proofs.Common.{◌∙◌, ap}
 use Rattle.std.specs.Prelude.{slice_get}
 use Rattle.hls_jobs.specs.ProgrammeTexts.{noted_reply}

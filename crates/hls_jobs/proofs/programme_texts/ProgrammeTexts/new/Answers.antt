@@ -1,3 +1,4 @@
+-- The reply is noted first, and the texts are made of it.
 use Rattle.std.proofs.Common.{◌≡◌, ◌∙◌, ◌++◌, ◌∷◌, [], Some, ap, refl, sym}
 use Rattle.hls_catchup.specs.Jobs.Files.{certificate_file}
 use Rattle.hls_catchup.specs.Replies.{ReplyData}

@@ -1,3 +1,4 @@
+-- What is returned was in the table of plans, or was added to it, under the lock. It is missing only if as many plans as may be wait or run.
 use Rattle.hls_jobs.proofs.PlanCalls.{added_plan}
 use Rattle.hls_jobs.proofs.shared.Jobs.find_or_plan.Goals as goal
 

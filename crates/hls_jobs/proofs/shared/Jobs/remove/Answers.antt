@@ -1,3 +1,4 @@
+-- The result, success or a fault, is that of removing the job from a valid table: the one that the lock protected.
 use Rattle.hls_jobs.proofs.shared.Jobs.remove.Goals as goal
 use Rattle.hls_jobs.proofs.shared.Jobs.remove.Goals.{in-Ok, in-Err}
 

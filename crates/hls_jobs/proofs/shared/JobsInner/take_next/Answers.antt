@@ -1,3 +1,4 @@
+-- If a job waits, the result is the job that a valid table gives away; otherwise it is a plan or nothing, and no job leaves the table.
 use Rattle.hls_jobs.proofs.shared.JobsInner.take_next.Goals as goal
 
 pub returns-in-Some : goal.returns-in-Some

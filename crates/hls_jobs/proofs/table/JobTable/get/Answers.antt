@@ -1,3 +1,4 @@
+-- By the row at the id's index: there is none, its state is reported, or it is finished and has its answer.
 use Rattle.std.proofs.Common.{◌≡◌, List, None, subst, ◌≢◌}
 use Rattle.std.specs.Prelude.{All}
 use Rattle.hls_catchup.specs.declared.jobs.job.JobRow.{JobRow}

@@ -1,3 +1,4 @@
+-- The result says whether a waiting row was found, so whether a job waits.
 use Rattle.std.proofs.Common.{ℕ, List, Option, Some, None, subst, sym, ap, ◌∙◌}
 use Rattle.std.specs.Option.{is_some}
 use Rattle.hls_catchup.specs.declared.jobs.job.JobRow.{JobRow}

@@ -1,3 +1,4 @@
+-- The row that was found is unused, and removing it removes the job of its id.
 use Rattle.std.proofs.Common.{◌≡◌, List, ap, subst, true}
 use Rattle.hls_catchup.specs.declared.jobs.job.JobRow.{JobRow}
 use Rattle.hls_catchup.specs.Jobs.Tables.{JobTableData, rows_without}

@@ -1,3 +1,4 @@
+-- The first waiting row has the lowest id of those that wait, since ids rise; it runs now.
 use Rattle.std.proofs.Common.{◌≡◌, List, length, ap, subst}
 use Rattle.hls_catchup.specs.declared.jobs.job.JobRow.{JobRow}
 use Rattle.hls_catchup.specs.declared.jobs.job.JobState.TheVariants.{Running}

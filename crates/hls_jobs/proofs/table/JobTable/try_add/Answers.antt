@@ -1,3 +1,4 @@
+-- The table stays sound after a job is added under the next id: it had room for one more row, and the id is below the limit.
 use Rattle.std.proofs.Common.{refl, arith}
 use Rattle.hls_jobs.proofs.Keeps.{kept_added}
 use Rattle.hls_jobs.proofs.table.JobTable.try_add.Goals as goal

@@ -1,3 +1,4 @@
+-- By the row at the id's index: there is none, it doesn't run for this request and version, or its state becomes the answer's.
 use Rattle.std.proofs.Common.{◌≡◌, ℕ, List, Some, None, refl, ap, subst, ◌∙◌, ◌≢◌}
 use Rattle.std.specs.Prelude.{All}
 use Rattle.hls_catchup.specs.declared.jobs.job.JobRow.{JobRow}

@@ -1,3 +1,4 @@
+-- By the row at the id's index: there is none, or removing it removes the job of this id.
 use Rattle.std.proofs.Common.{◌≡◌, List, None, refl, ap, subst, ◌≢◌}
 use Rattle.std.specs.Prelude.{All}
 use Rattle.hls_catchup.specs.declared.jobs.job.JobRow.{JobRow}
