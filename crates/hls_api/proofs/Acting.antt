@@ -7,18 +7,21 @@ use Rattle.hls_api.specs.SinceLists.{since_answer}
 use Rattle.hls_playlists.specs.declared.media_uris.MediaUris.TheVariants.{Paths}
 use Rattle.hls_api.specs.declared.route.Route.TheVariants as routes
 
+-- no acts leave what a keeper knows as it is
 pub acted_none : (m : OtherActors) (a : Knowledge) (before : List Act) → ActsExtend m a before a before
 acted_none m a before = ([], sym (append-nil before), refl)
 
+-- steps of acts that begin where others end are, after those, steps of all these acts
 chain_on : (m : OtherActors) (first : List Act) (a b c : Knowledge) (later : List Act) → AreActSteps m a first b → AreActSteps m b later c → AreActSteps m a (first ++ later) c
 chain_on m [] a b c later x y = subst (λ (k : Knowledge). AreActSteps m k later c) x y
 chain_on m (act ∷ acts) a b c later (middle, act_steps, meets, others) y = (middle, act_steps, meets, chain_on m acts middle b c later others y)
 
+-- acts that continue from acts of the same connection extend the acts before both
 pub acted_on : (m : OtherActors) (a b c : Knowledge) (before middle after : List Act) → ActsExtend m a before b middle → ActsExtend m b middle c after → ActsExtend m a before c after
 acted_on m a b c before middle after (first, x, act_steps) (later, y, goes) =
     (first ++ later, y ∙ ap (λ (acts : List Act). acts ++ later) x ∙ append_assoc before first later, chain_on m first a b c later act_steps goes)
 
--- what a player is shown of the state that is seen is the reply
+-- if one look is added, and the reply is what a player is shown of its state, the reply is the route's
 pub player_served : (q : RequestParams) (route : Route) (a b : List Act) (s : State) (answer : ResponseData) → RecordsLook a s b → shown_to_player q route s ≡ Some answer →
     IsServedBy q route a answer b
 player_served q routes.PathMaster a b s answer looks is = (s, looks, let same : answer ≡ path_master_answer s = cc in same)

@@ -15,13 +15,16 @@ use Rattle.hls_api.specs.declared.programme_responses.ProgrammeStart.TheVariants
 
 -- ---- the programme of a request, by the configuration and the log
 
+-- a state with this configuration and this log, and without bytes
 abbrev state_by : ConfigData → List Entry → State
 state_by config log = record { config = config; log = log; bytes = [] }
 
+-- the table of a request's programme, by a configuration and a log
 abbrev IsProgrammeBy : ConfigData → List Entry → Request → Table → Type 0
 IsProgrammeBy config log request t =
     IsProgramme (goal_of config.target request.preferred request.rule) (kept_places (state_by config log)) (all_finished (state_by config log)) request.start_us request.stop_us (Ok t)
 
+-- a state with the same configuration and log has the same table for a request
 same_table : (a b : State) (request : Request) (t : Table) → b.config ≡ a.config → b.log ≡ a.log → IsTableFor a request (Ok t) → IsTableFor b request (Ok t)
 same_table a b request t config log x =
     let by_config = subst (λ (c : ConfigData). IsProgrammeBy c a.log request t) (sym config) x.programme in
@@ -33,6 +36,7 @@ same_table a b request t config log x =
 
 -- ---- what a query leads to
 
+-- the request of parameters in a configuration, whose segment length is preferred if they name none
 abbrev request_by : CatchupParams → ConfigData → Request
 request_by params config = record {
   start_us = params.start_us;
@@ -41,6 +45,7 @@ request_by params config = record {
   rule = rule_of params.charge;
 }
 
+-- parameters lead to the same programme in a state with the same configuration and log
 params_stay : (a b : State) (resolved : Result CatchupParams QueryFault) (request : Request) → b.config ≡ a.config → b.log ≡ a.log → StartsParams a resolved (Planned request)
     → StartsParams b resolved (Planned request)
 params_stay a b (Ok params) request config log x =
@@ -49,6 +54,7 @@ params_stay a b (Ok params) request config log x =
     (x.0 ∙ sym same, subst (λ (r : Request). HasProgramme b r) (sym same) (has.0, same_table a b (request_for a params) has.0 config log has.1))
 params_stay a b (Err fault) request config log x = absurd (cc x)
 
+-- a query leads to the same programme in a state with as many events, if that state has the same lists
 start_stays : (source : Option State) (b : State) (query : CatchupQuery) (request : Request) → HasVersion source (length b.log) → HasSameListsBefore source b → IsStartIn source query request
     → IsStartIn (Some b) query request
 start_stays None b query request had follows start = absurd start
@@ -59,7 +65,7 @@ start_stays (Some a) b query request had follows start =
 
 -- ---- the cache
 
--- after a step to another state, or to the same
+-- after a change to the state b, the cached queries are b's, whether they were kept, since b has as many events, or removed
 pub queries_gone_on : (source new : Option State) (b : State) (old now : ℕ) (queries kept : List CachedQuery) → AreQueriesOf source old queries → HasSameListsBefore source b → new ≡ Some b → now ≡ length b.log
     → ((now ≡ old) × (kept ≡ queries)) ⊎ (kept ≡ []) → AreQueriesOf new now kept
 queries_gone_on source new b old now queries kept are follows noted had (inl (same, is)) =
@@ -69,7 +75,7 @@ queries_gone_on source new b old now queries kept are follows noted had (inl (sa
     )
 queries_gone_on source new b old now queries kept are follows noted had (inr none) = rw (noted, none) (λ s there. cc (had, there), All-nil (IsQueryOf (Some b)))
 
--- what a cached query leads to
+-- the cached query that equals a query leads to its request in the present state
 pub query_found : (source now : Option State) (queries items : List CachedQuery) (n : ℕ) (d : CachedQuery) (query : CatchupQuery) → source ≡ now → All (IsQueryOf source) queries → items ≡ queries → n < length items
     → (slice_index_or items n d).query ≡ query → IsStartIn now query (slice_index_or items n d).request
 query_found source now queries items n d query same all is within found =
@@ -77,11 +83,11 @@ query_found source now queries items n d query same all is within found =
     let there = subst (λ (qs : List CachedQuery). All (IsQueryOf source) qs) (sym is) all n d within in
     subst (λ (q : CatchupQuery). IsStartIn now q kept.request) found (subst (λ (o : Option State). IsStartIn o kept.query kept.request) same there)
 
--- none
+-- an empty cache has only queries of the state
 pub no_queries : (source : Option State) (new : List CachedQuery) → new ≡ [] → All (IsQueryOf source) new
 no_queries source new none = subst (λ (l : List CachedQuery). All (IsQueryOf source) l) (sym none) (All-nil (IsQueryOf source))
 
--- one more query, if it could be allocated
+-- all cached queries are of the state after one more of the state is added, or couldn't be for lack of memory
 pub query_pushed : (source now : Option State) (b : Bool) (old new : List CachedQuery) (x : CachedQuery) → source ≡ now → IsStartIn now x.query x.request → new ≡ (if b then old ++ x ∷ [] else old)
     → All (IsQueryOf source) old → All (IsQueryOf source) new
 query_pushed source now true old new x same is grown all =

@@ -8,9 +8,11 @@ use Rattle.hls_catchup.specs.declared.jobs.job.Job.TheVariants as told
 use Rattle.hls_api.specs.declared.route.Route.TheVariants as routes
 use Rattle.hls_api.specs.declared.route.JobFile.TheVariants as files
 
+-- a rendition's number with a leading zero names nothing
 leading_zero : route_of (record { renditions = 2; mending = None; shown_us = None }) (codes "/live/01.m3u8") ≡ None
 leading_zero = refl
 
+-- /job/12/0.mp4 names the media of rendition 0 of job 12
 job_media : route_of (record { renditions = 1; mending = None; shown_us = None }) (codes "/job/12/0.mp4") ≡ Some (routes.JobFile 12 (files.Media 0))
 unfolding number_of_digits
 job_media = refl
@@ -33,7 +35,7 @@ by_the_clock : catchup_params_of (Some (pos 1704067200000000)) (record { start =
     ≡ Ok (record { start_us = 5000000; stop_us = 9000000; preferred = None; charge = None })
 by_the_clock = refl
 
--- a trimmed byte
+-- a range with a trimmed byte is unavailable
 trimmed : whole_range (Some 1 ∷ None ∷ []) ≡ None
 unfolding whole_range
 trimmed = refl

@@ -11,15 +11,17 @@ use Rattle.hls_api.specs.declared.encoder_readings.EncoderReadings.{EncoderReadi
 use Rattle.hls_api.specs.Jumps.{AllJumpIsAccepted, OneClockIsRefused, end_us_in, later, newest_end, other_presences, presence_of}
 use Rattle.hls_mend_laws.specs.Jumps.{allows_jump, is_accepted_jump}
 
+-- zero renditions have no newest end
 pub newest_zero : (s : State) → newest_end s 0 ≡ None
 unfolding newest_end
 newest_zero s = refl
 
+-- the newest end of the first n + 1 renditions is the later of that of the first n and the end of rendition n
 pub newest_next : (s : State) (n : ℕ) → newest_end s (n + 1) ≡ later (newest_end s n) (end_us_in (recording_of s n))
 unfolding newest_end
 newest_next s n = let a : n + 1 ≡ suc n = omega arith in rw a refl
 
--- the presences so far, and the next one
+-- if the first n of 16 presences are right, and the next one is set to that of rendition n, the first n + 1 are right
 pub presences_next : (s : State) (r : ℕ) (e : EncoderReadings) (ps : List Presence) (p : Presence) (n : ℕ) → p ≡ presence_of s r e n → n < 16
     → (length ps ≡ 16) × (take n ps ≡ map (presence_of s r e) (range_with_len 0 n))
     → (length (set ps n p) ≡ 16) × (take (n + 1) (set ps n p) ≡ map (presence_of s r e) (range_with_len 0 (n + 1)))
@@ -30,16 +32,17 @@ presences_next s r e ps p n is small (long, same) = (
       ∙ sym (map-range_with_len_more (presence_of s r e) 0 n n (omega arith)),
 )
 
--- .. all of them
+-- 16 presences that are right are those of the other renditions
 pub presences_done : (s : State) (r : ℕ) (e : EncoderReadings) (ps : List Presence) → length ps ≡ 16 → take 16 ps ≡ map (presence_of s r e) (range_with_len 0 16) → ps ≡ other_presences s r e
 presences_done s r e ps long is = sym (take_all 16 ps (omega (arith, long))) ∙ is
 
 -- ---- laws
 
--- the presence of rendition n among them
+-- the n-th of the other presences is that of rendition n
 presence_at : (s : State) (r : ℕ) (e : EncoderReadings) (n : ℕ) (d : Presence) → n < 16 → get_or (other_presences s r e) n d ≡ presence_of s r e n
 presence_at s r e n d small = get_or-map-range_with_len (presence_of s r e) 0 16 n n d small (omega arith)
 
+-- while another rendition continues, a unit of rendition r that is ahead isn't accepted
 pub one_clock_is_refused : OneClockIsRefused
 unfolding is_accepted_jump
 one_clock_is_refused s r n e small goes =
@@ -48,6 +51,7 @@ one_clock_is_refused s r n e small goes =
     list_all_at (allows_jump e.wait_us e.now_us) (other_presences s r e) n nobody (omega (arith, small, length-map-range_with_len (presence_of s r e) 0 16))
     (ap (allows_jump e.wait_us e.now_us) (presence_at s r e n nobody small) ∙ stays)
 
+-- if each of the 16 possible renditions allows the jump, a unit of rendition r that is ahead is accepted
 pub all_jump_is_accepted : AllJumpIsAccepted
 unfolding is_accepted_jump
 all_jump_is_accepted s r e each =

@@ -1,3 +1,4 @@
+-- The lemmas on requests and acts: paths and their responses, cached queries, gaps and jumps of encoders, and acts that link states.
 mod Recents
 mod CachedQueries
 mod Parts

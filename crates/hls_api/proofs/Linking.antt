@@ -9,9 +9,11 @@ use Rattle.hls_core_laws.specs.PassView as calls
 
 -- ---- later knowledge
 
+-- what a keeper knows counts as later than itself
 pub later_itself : (a : Knowledge) → IsLaterKnowledge a a
 later_itself a = record { number = refl; follows = follows_itself a.seen; more = []; mine = sym (append-nil a.mine); asked = []; acts = sym (append-nil a.acts) }
 
+-- what is later than later knowledge is later
 pub later_through : (a b c : Knowledge) → IsLaterKnowledge a b → IsLaterKnowledge b c → IsLaterKnowledge a c
 later_through a b c x y = record {
   number = y.number ∙ x.number;
@@ -22,27 +24,30 @@ later_through a b c x y = record {
   acts = y.acts ∙ ap (λ (t : List Act). t ++ y.asked) x.acts ∙ append_assoc a.acts x.asked y.asked;
 }
 
--- what is known of the channel grows
+-- a view has grown: the number is the same, the state is the same or follows, and perhaps events were added
 record Grows (a b : PassView) : Type 0 where
   number : b.number ≡ a.number
   follows : Follows a.seen b.seen
   more : List LoggedEvent
   mine : b.mine ≡ a.mine ++ more
 
+-- a view that may have seen a later state has grown
 looked_grows : (a b : PassView) → calls.MaySeeLater a b → Grows a b
 looked_grows a b looked = record { number = looked.number; follows = looked.follows; more = []; mine = looked.mine ∙ sym (append-nil a.mine) }
 
+-- a view that stays the same has grown by nothing
 same_grows : (a b : PassView) → b ≡ a → Grows a b
 same_grows a b same =
     subst (λ (k : PassView). Grows a k) (sym same) (record { number = refl; follows = follows_itself a.seen; more = []; mine = sym (append-nil a.mine) })
 
--- an answer adds an event to those of the keeper, or none
+-- the answer to an event adds this event to those of the keeper, or none
 adds : (event : Event) (old new : List LoggedEvent) (b : State) (outcome : Outcome) (answer : Result Done Refusal) → calls.IsSubmitResult event old new b outcome answer
     → (more : List LoggedEvent) × (new ≡ old ++ more)
 adds event old new b New answer (told, grown) = (logged_event event ∷ [], grown)
 adds event old new b Repeated answer (told, same) = ([], same ∙ sym (append-nil old))
 adds event old new b (Refused r) answer (told, same) = ([], same ∙ sym (append-nil old))
 
+-- the effect of an act on a valid state is a valid state and a view that has grown
 does_grow : (a b : PassView) (act : Act) → IsState a.seen → HasEffect a act b → IsState b.seen × Grows a b
 does_grow a b (Looked s) valid does = (state_of a.seen b.seen does.looked.follows valid, looked_grows a b does.looked)
 does_grow a b LookFailed valid does = (state_of a.seen b.seen does.follows valid, looked_grows a b does)
@@ -55,6 +60,7 @@ does_grow a b (Added s request result) valid (same, added) = (subst (λ (k : Pas
 does_grow a b (Removed id result) valid (same, removed) = (subst (λ (k : PassView). IsState k.seen) (sym same) valid, same_grows a b same)
 does_grow a b (ReadEncoders readings) valid same = (subst (λ (k : PassView). IsState k.seen) (sym same) valid, same_grows a b same)
 
+-- one act on a valid state leads to a valid state and to later knowledge
 pub act_later : (a b : Knowledge) (act : Act) → IsState a.seen → IsActStep a act b → IsState b.seen × IsLaterKnowledge a b
 act_later a b act valid act_steps =
     let grown = does_grow (view_of a) (view_of b) act valid act_steps.does in
@@ -62,6 +68,7 @@ act_later a b act valid act_steps =
 
 -- ---- acts that are linked
 
+-- if linked acts begin at a valid state, they lead to a valid state and to later knowledge
 pub linked_follows : (acts : List Act) (a b : Knowledge) → IsState a.seen → AreLinked a acts b → IsState b.seen × IsLaterKnowledge a b
 linked_follows [] a b valid later = (state_of a.seen b.seen later.follows valid, later)
 linked_follows (act ∷ acts) a b valid (met, left, later, act_steps, others) =
@@ -70,10 +77,12 @@ linked_follows (act ∷ acts) a b valid (met, left, later, act_steps, others) =
     let last = linked_follows acts left b following.0 others in
     (last.0, later_through a left b (later_through a met left later following.1) last.1)
 
+-- linked acts stay linked as knowledge grows after them
 pub linked_later : (acts : List Act) (a b c : Knowledge) → AreLinked a acts b → IsLaterKnowledge b c → AreLinked a acts c
 linked_later [] a b c later more = later_through a b c later more
 linked_later (act ∷ acts) a b c (met, left, later, act_steps, others) more = (met, left, later, act_steps, linked_later acts left b c others more)
 
+-- linked acts, and after them acts that each start where the one before it led, are linked acts
 linked_on : (m : OtherActors) (before acts : List Act) (a b c : Knowledge) → AreLinked a before b → AreActSteps m b acts c → AreLinked a (before ++ acts) c
 linked_on m [] [] a b c later same = subst (λ (k : Knowledge). IsLaterKnowledge a k) (sym same) later
 linked_on m [] (act ∷ acts) a b c later (middle, act_steps, meets, others) =
@@ -81,11 +90,12 @@ linked_on m [] (act ∷ acts) a b c later (middle, act_steps, meets, others) =
 linked_on m (act ∷ before) acts a b c (met, left, later, act_steps, others) chain =
     (met, left, later, act_steps, linked_on m before acts left b c others chain)
 
+-- acts that continue from linked acts are linked to them
 pub linked_acted : (m : OtherActors) (a b c : Knowledge) (before after : List Act) → AreLinked a before b → ActsExtend m b before c after → AreLinked a after c
 linked_acted m a b c before after linked (acts, is, chain) =
     subst (λ (t : List Act). AreLinked a t c) (sym is) (linked_on m before acts a b c linked chain)
 
--- each of these acts continues from where the one before it led
+-- if acts continue from a valid state, they lead to a valid state and to later knowledge
 pub acted_follows : (m : OtherActors) (a b : Knowledge) (before after : List Act) → IsState a.seen → ActsExtend m a before b after → IsState b.seen × IsLaterKnowledge a b
 acted_follows m a b before after valid (acts, is, chain) =
     linked_follows acts a b valid (linked_on m [] acts a a b (later_itself a) chain)

@@ -12,11 +12,13 @@ use Rattle.hls_playlists_laws.specs.JobResource.{units_between}
 
 -- ---- bytes that are all available
 
+-- a range without an unavailable byte is all its bytes
 whole-map : (bytes : List ℕ) → whole_range (map Some bytes) ≡ Some bytes
 unfolding whole_range
 whole-map [] = refl
 whole-map (b ∷ bytes) = ap (option_map (λ others. b ∷ others)) (whole-map bytes)
 
+-- a range whose byte n is unavailable is unavailable as a whole
 none-at : (xs : List (Option ℕ)) (n : ℕ) → n < length xs → get_or xs n None ≡ None → whole_range xs ≡ None
 unfolding whole_range
 none-at [] n within none = absurd (omega arith)
@@ -24,11 +26,13 @@ none-at (None ∷ xs) n within none = refl
 none-at (Some b ∷ xs) zero within none = cc
 none-at (Some b ∷ xs) (suc n) within none = ap (option_map (λ others. b ∷ others)) (none-at xs n (omega arith) none)
 
+-- a range that contains an unavailable byte is unavailable as a whole
 whole-none : (xs : List (Option ℕ)) → Contains xs None → whole_range xs ≡ None
 whole-none xs gone = none-at xs gone.0 gone.1 gone.2
 
 -- ---- a recording
 
+-- a part of a recording that has a trimmed byte is unavailable
 pub part_gone : (r : RecordingData) (from len : ℕ) → IsRecorded r → from + len ≤ total_of r → max from (length r.head) < min (from + len) (offset_at r r.floor)
     → media_bytes r from len ≡ None
 part_gone r from len valid within gone = whole-none (range_of r from (from + len)) (gone_range r from (from + len) valid (omega arith, within) gone)
@@ -44,13 +48,15 @@ kept-joined r valid =
     ap (λ n. r.head ++ concat (take (length r.facts - max 0 r.floor) (drop n r.units))) none
     ∙ ap (λ us. r.head ++ concat us) (take_all (length r.facts - max 0 r.floor) r.units (omega (arith, valid)))
 
+-- the init section makes up as many entries of the resource as it has bytes
 heads : (r : RecordingData) → length (map (λ (x : ℕ). Some x) r.head) ≡ length r.head
 heads r = length-map r.head Some
 
+-- the trimmed units make up as many entries of the resource as they had bytes
 holes : (r : RecordingData) → length {A = Option ℕ} (replicate (hole r) None) ≡ hole r
 holes r = length-replicate (hole r) None
 
--- the kept part of a range is there
+-- a part of a recording without trimmed bytes is within the joined slices, from its offset among the untrimmed bytes on
 pub part_fits : (r : RecordingData) (from len : ℕ) → IsRecorded r → from + len ≤ total_of r → min (from + len) (offset_at r r.floor) ≤ max from (length r.head)
     → kept_offset r from + len ≤ length (concat (kept_slices r))
 part_fits r from len valid within kept =
@@ -61,7 +67,7 @@ part_fits r from len valid within kept =
     let c : length (map (λ (x : ℕ). Some x) (concat r.units)) ≡ length (concat r.units) = length-map (concat r.units) Some in
     omega (arith, joined, both, a, b, c, bytes_length r valid, heads r, holes r, within, kept)
 
--- bytes of two lists with a third between them are bytes of the two alone, if none of the third is asked for
+-- bytes of three joined lists are bytes of the first and the third joined, if none of the second is requested
 without : {A : Type 0} (xs ns ys : List A) (from len at : ℕ) → min (from + len) (length xs + length ns) ≤ max from (length xs)
     → at ≡ min from (length xs) + (from - (length xs + length ns)) → take len (drop from (xs ++ ns ++ ys)) ≡ take len (drop at (xs ++ ys))
 without xs ns ys from zero at kept is = refl
@@ -76,7 +82,7 @@ without (x ∷ xs) ns ys (suc from) (suc len) at kept is =
     let more = without xs ns ys from (suc len) (at - 1) (omega arith) (omega arith) in
     subst (λ n. take (suc len) (drop from (xs ++ ns ++ ys)) ≡ take (suc len) (drop n (x ∷ xs ++ ys))) up more
 
--- if none of them is trimmed, the bytes from an offset on are those of the slices
+-- a part of a recording without trimmed bytes has the bytes of the joined slices, from its offset among the untrimmed bytes on
 pub kept_shown : (r : RecordingData) (from len : ℕ) → r.floor + length r.units ≡ length r.facts → min (from + len) (offset_at r r.floor) ≤ max from (length r.head)
     → media_bytes r from len ≡ Some (take len (drop (kept_offset r from) (concat (kept_slices r))))
 kept_shown r from len valid kept =
@@ -89,13 +95,14 @@ kept_shown r from len valid kept =
     ap whole_range (ap (λ n. take n (drop from (bytes_of r))) span ∙ shown ∙ ap (λ xs. take len (drop at xs)) joined ∙ some)
     ∙ whole-map (take len (drop at (concat (kept_slices r))))
 
+-- in a valid recording, a part without trimmed bytes has the bytes of the joined slices from its offset there on
 pub part_kept : (r : RecordingData) (from len : ℕ) → IsRecorded r → min (from + len) (offset_at r r.floor) ≤ max from (length r.head)
     → media_bytes r from len ≡ Some (take len (drop (kept_offset r from) (concat (kept_slices r))))
 part_kept r from len valid kept = kept_shown r from len valid.kept kept
 
 -- ---- the resource of a recording that other bytes precede
 
--- in the hole no byte is kept
+-- each entry between the two lists is None
 hole-at : (xs : List (Option ℕ)) (n : ℕ) (ys : List (Option ℕ)) (i : ℕ) → length xs ≤ i → i < length xs + n →
     get_or (xs ++ replicate n None ++ ys) i None ≡ None
 hole-at [] zero ys i low high = absurd (omega (arith, high))
@@ -104,6 +111,7 @@ hole-at [] (suc n) ys (suc i) low high = hole-at [] n ys i (omega arith) (omega 
 hole-at (x ∷ xs) n ys zero low high = absurd (omega (arith, low))
 hole-at (x ∷ xs) n ys (suc i) low high = hole-at xs n ys i (omega (arith, low)) (omega (arith, high))
 
+-- a resource has the bytes that precede the recording's units and those of the recording
 based-length : (before : ℕ) (r : RecordingData) → IsRecorded r → length (based_bytes before r) ≡ before + total_of r
 based-length before r valid =
     let one = length-append (map Some r.head ++ replicate before None) (drop (length r.head) (bytes_of r)) in
@@ -111,6 +119,7 @@ based-length before r valid =
     let n : length {A = Option ℕ} (replicate before None) ≡ before = length-replicate before None in
     omega (arith, one, two, n, heads r, length-drop (length r.head) (bytes_of r), bytes_length r valid)
 
+-- a part of a resource that has one of the bytes that precede the recording's units is unavailable
 pub based_gone : (before : ℕ) (r : RecordingData) (from len : ℕ) → IsRecorded r → from + len ≤ before + total_of r →
     max from (length r.head) < min (from + len) (length r.head + before) → based_media_bytes before r from len ≡ None
 based_gone before r from len valid within gone =
@@ -125,16 +134,17 @@ based_gone before r from len valid within gone =
     none-at (take len (drop from whole)) at (omega (arith, few, inside))
     (get_or-take len (drop from whole) at None inside ∙ (get_or-drop from whole at None ∙ none))
 
--- where a byte doesn't precede the recording, it is the recording's
+-- a part of a resource with none of the bytes that precede the recording's units is within the recording, from its own offset on
 pub based_fits : (before : ℕ) (r : RecordingData) (from len : ℕ) → from + len ≤ before + total_of r →
     min (from + len) (length r.head + before) ≤ max from (length r.head) → own_offset before r from + len ≤ total_of r
 based_fits before r from len within kept = omega (arith, within, kept)
 
--- the head, and what follows it
+-- after the first of two joined lists comes the second
 head-first : (xs ys : List (Option ℕ)) → drop (length xs) (xs ++ ys) ≡ ys
 head-first [] ys = refl
 head-first (x ∷ xs) ys = head-first xs ys
 
+-- the init section and what follows it in a recording make up the recording
 head-rest : (r : RecordingData) → map Some r.head ++ drop (length r.head) (bytes_of r) ≡ bytes_of r
 head-rest r =
     let xs : List (Option ℕ) = map Some r.head in
@@ -144,6 +154,7 @@ head-rest r =
     ap (λ n. drop n (xs ++ rest)) (sym (heads r)) ∙ head-first xs rest in
     ap (λ ys. xs ++ drop (length r.head) ys) parts ∙ (ap (λ ys. xs ++ ys) after ∙ sym parts)
 
+-- a part of a resource with none of the bytes that precede the recording's units has the recording's bytes from its own offset on
 pub based_kept : (before : ℕ) (r : RecordingData) (from len : ℕ) → min (from + len) (length r.head + before) ≤ max from (length r.head) →
     based_media_bytes before r from len ≡ media_bytes r (own_offset before r from) len
 based_kept before r from len kept =
@@ -156,13 +167,13 @@ based_kept before r from len kept =
 
 -- ---- a reply
 
--- if all units from number `first` on are kept, the slices are those between
+-- if all units from number `first` on are kept, the slices are the init section and the units from `first` to the one before `end`
 from_kept : (r : RecordingData) (first end : ℕ) → r.floor ≤ first → slices_between (Some r) first end ≡ r.head ∷ units_between r.floor r.units first end
 from_kept r first end kept =
     let above : max first r.floor ≡ first = omega arith in
     ap (λ n. r.head ∷ units_between r.floor r.units n end) above
 
--- the slices of its units, in its own snapshot, are its parts
+-- the slices of a reply's units in its own snapshot are the parts of its resource
 pub reply_slices : (reply : ReplyData) (s : State) (r : ℕ) (span : ReplyUnits) → s ≡ reply.state → AreReplyUnits reply r span
     → Some (slices_between (recording_of s r) span.first span.end) ≡ parts_in reply r
 reply_slices reply s r span same are =

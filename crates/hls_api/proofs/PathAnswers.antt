@@ -22,6 +22,7 @@ use Rattle.hls_api.specs.Players.{init_answer, init_section_answer, of_run, reco
 use Rattle.hls_api.specs.PathAnswers.{IsAnsweredPath}
 use Rattle.hls_api.proofs.Parts.{kept_shown}
 
+-- a run's name equals itself, byte by byte
 same-run : (run : List ℕ) → bytes_eq run run ≡ true
 same-run run = (bytes_eq-Decides run run).1 refl
 
@@ -34,6 +35,7 @@ record IsRecording (s : State) (r : ℕ) (l : Lane) : Type 0 where
   floor : rec.floor ≡ l.floor
   kept : rec.floor + length rec.units ≡ length rec.facts
 
+-- in a valid state, a lane with an init section has a recording with the same sizes, facts and floor
 recording-at : (s : State) → IsState s → (r : ℕ) (l : Lane) (init : InitData) → slice_get (channel s).lanes r ≡ Some l → l.init ≡ Some init → IsRecording s r l
 recording-at s state r l init at begun =
     let beside = at_beside (channel s).lanes s.bytes r l state.counts_agree at in
@@ -50,26 +52,29 @@ recording-at s state r l init at begun =
       kept = fits.kept;
     }
 
--- bytes of the init section and of kept units are there
+-- a slice without trimmed bytes, asked for without a range, is answered with 200
 whole-slice : (rec : RecordingData) (start len : ℕ) → rec.floor + length rec.units ≡ length rec.facts →
     min (start + 0 + len) (offset_at rec rec.floor) ≤ max (start + 0) (length rec.head) → (slice_answer rec start len All).status ≡ Done
 whole-slice rec start len kept there =
     let shown = kept_shown rec (start + 0) len kept there in
     ap (λ (o : Option (List ℕ)). (part_answer (λ from n. o) len parts.Whole).status) shown
 
--- the bytes of units in two parts
+-- the bytes of the first n units are those of the first m units and those of the units between
 bytes-to : (facts : List Facts) (m n : ℕ) → m ≤ n → total_bytes (take n facts) ≡ total_bytes (take m facts) + bytes_between facts m n
 bytes-to facts m n rises =
     let whole : n ≡ m + (n - m) = omega (arith, rises) in
     ap (λ (k : ℕ). total_bytes (take k facts)) whole
     ∙ (ap total_bytes (take-add m (n - m) facts) ∙ sum_by-append len_of (take m facts) (take (n - m) (drop m facts)))
 
+-- an answer under the channel's own run is that answer
 own-run : (s : State) (answer : ResponseData) → of_run s s.config.base.run answer ≡ answer
 own-run s answer = cond-true (bytes_eq s.config.base.run s.config.base.run) answer _ (same-run s.config.base.run)
 
+-- a media reply that is 200 stays 200 with its cache policy
 shared-status : (a : ResponseData) → a.status ≡ Done → (shared_media a).status ≡ Done
 shared-status a is = is
 
+-- if the bytes from `first` to `last` name kept units of a lane, their path is answered with 200
 segment-status : (s : State) (r : ℕ) (l : Lane) (first last m n : ℕ) → IsRecording s r l →
     named_units (bytes_before_base s.config.base r) s.config.target l.size l.facts l.floor first last ≡ KeptUnits m n →
     (segment_answer s s.config.base.run r first last All).status ≡ Done
@@ -88,6 +93,7 @@ segment-status s r l first last m n on named =
     ∙ (ap (λ (o : Option RecordingData). (recorded_units_answer s.config.target before o first last All).status) on.is
     ∙ (ap (λ (x : Named). (units_answer rec x All).status) own ∙ there))
 
+-- each path that a state lists is answered with 200 in that state
 pub listed_paths_are_answered : (s : State) (r : ℕ) (list : Playlist) (k : ℕ) (x : MediaSegment) → IsState s → path_list_of s r ≡ Some list →
     slice_get list.segments k ≡ Some x → IsAnsweredPath s r x.uri
 listed_paths_are_answered s r list k x state is at =
@@ -101,6 +107,7 @@ listed_paths_are_answered s r list k x state is at =
       done = segment-status s r lane.0 kept.range.offset (kept.range.offset + kept.range.length - 1) kept.first kept.end on kept.named;
     }
 
+-- if a state has a playlist by paths for a rendition, that rendition's init section is answered with 200
 pub listed_inits_are_answered : (s : State) (r : ℕ) (list : Playlist) → IsState s → path_list_of s r ≡ Some list →
     (init_answer s s.config.base.run r All).status ≡ Done
 listed_inits_are_answered s r list state is =

@@ -16,11 +16,12 @@ use Rattle.hls_api.specs.declared.playlist_cache.CachedPlaylist.{CachedPlaylist}
 use Rattle.hls_playlists.specs.declared.media_uris.MediaUris.{MediaUris}
 use Rattle.hls_api.specs.PlaylistCache.{AreListsOf, HasVersion, HasSameListsBefore, IsListOf, live_text_in}
 
+-- a playlist of the noted state is the same in a state with as many events, if that state has the same lists
 list_stays : (source : Option State) (b : State) → HasVersion source (length b.log) → HasSameListsBefore source b → (uris : MediaUris) (r : ℕ) (text : List ℕ) → live_text_in source uris r ≡ Some text → live_text_in (Some b) uris r ≡ Some text
 list_stays None b had follows uris r text is = cc
 list_stays (Some a) b had follows uris r text is = ((follows a refl).1 (sym (had a refl))).texts uris r ∙ is
 
--- after a step to another state, or to the same
+-- after a change to the state b, the cached playlists are b's, whether they were kept, since b has as many events, or removed
 pub gone_on : (source new : Option State) (b : State) (old now : ℕ) (lists kept : List CachedPlaylist) → AreListsOf source old lists → HasSameListsBefore source b → new ≡ Some b → now ≡ length b.log
     → ((now ≡ old) × (kept ≡ lists)) ⊎ (kept ≡ []) → AreListsOf new now kept
 gone_on source new b old now lists kept are follows noted had (inl (same, is)) =
@@ -30,7 +31,7 @@ gone_on source new b old now lists kept are follows noted had (inl (same, is)) =
     )
 gone_on source new b old now lists kept are follows noted had (inr none) = rw (noted, none) (λ s there. cc (had, there), All-nil (IsListOf (Some b)))
 
--- one more playlist, if it could be allocated
+-- all cached playlists are of the state after one more of the state is added, or couldn't be for lack of memory
 pub pushed : (source now : Option State) (b : Bool) (old new : List CachedPlaylist) (x : CachedPlaylist) (text : List ℕ) → source ≡ now → x.text.items ≡ text → live_text_in now x.uris x.rendition ≡ Some text
     → new ≡ (if b then old ++ x ∷ [] else old) → All (IsListOf source) old → All (IsListOf source) new
 pushed source now true old new x text same is here grown all =
@@ -39,6 +40,7 @@ pushed source now false old new x text same is here grown all = subst (λ (l : L
 
 -- ---- later states
 
+-- two states with as many events that the same state follows have the same live playlists
 texts_stay : (uris : MediaUris) (r : ℕ) (a b later : State) → Follows a later → Follows b later → length b.log ≡ length a.log → live_text uris b r ≡ live_text uris a r
 texts_stay Ranges r a b later a_first b_first as_many = ap (option_map media_text) (based-lists-stay a b later a_first b_first as_many r).0
 texts_stay Paths r a b later a_first b_first as_many = ap (option_map media_text) (based-lists-stay a b later a_first b_first as_many r).1
@@ -48,16 +50,19 @@ texts_stay PathsAbove r a b later a_first b_first as_many =
     ap (λ (o : Option Playlist). option_map media_text (option_map (list_by_paths (run_above b.config.base) r) o)) lists
     ∙ ap (λ (c : ConfigData). option_map media_text (option_map (list_by_paths (run_above c.base) r) (based_list_of a r))) config
 
+-- a state that follows another has at least as many events
 log_grows : (a b : State) → Follows a b → length a.log ≤ length b.log
 log_grows a b (inl same) = omega (arith, ap (λ (s : State). length s.log) same)
 log_grows a b (inr follows) = omega (arith, ap length follows.continues.log, length-append a.log follows.continues.rest)
 
+-- a state that follows another and has as many events has the same events
 log_stays : (a b : State) → Follows a b → length b.log ≡ length a.log → b.log ≡ a.log
 log_stays a b follows as_many =
     let on = continues_of a b follows in
     let none : on.rest ≡ [] = nil_from_length on.rest (omega (arith, ap length on.log, length-append a.log on.rest, as_many)) in
     on.log ∙ ap (λ (rest : List Entry). a.log ++ rest) none ∙ append-nil a.log
 
+-- if a state has the same lists as the noted one, or more events, so does each state that follows it
 lists_follow : (source : Option State) (old new : State) → HasSameListsBefore source old → Follows old new → HasSameListsBefore source new
 lists_follow source old new had follows a is =
     let was = had a is in
@@ -73,6 +78,7 @@ lists_follow source old new had follows a is =
           },
     )
 
+-- if a state has the same lists as the noted one, or more events, so does the state to which an event moves it
 lists_move : (source : Option State) (met new : State) (by : ℕ) (event : Event) (outcome : Outcome) → HasSameListsBefore source met → Moves met by event outcome new → HasSameListsBefore source new
 lists_move source met new by event New had moves = one_more
   where
@@ -86,10 +92,11 @@ lists_move source met new by event New had moves = one_more
 lists_move source met new by event Repeated had moves = subst (HasSameListsBefore source) (sym moves.1) had
 lists_move source met new by event (Refused q) had moves = subst (HasSameListsBefore source) (sym moves.1) had
 
--- after a look, and after an event
+-- if the state that was seen has the same lists as the noted one, or more events, so does the state after a look
 pub lists_looked : (source : Option State) (old new : PassView) → HasSameListsBefore source old.seen → MaySeeLater old new → HasSameListsBefore source new.seen
 lists_looked source old new had looked = lists_follow source old.seen new.seen had looked.follows
 
+-- if the state that was seen has the same lists as the noted one, or more events, so does the state after an event was submitted
 pub lists_submitted : (source : Option State) (old new : PassView) (event : Event) (result : Result Done Refusal) → HasSameListsBefore source old.seen → Submits old event result new →
     HasSameListsBefore source new.seen
 lists_submitted source old new event result had submits =

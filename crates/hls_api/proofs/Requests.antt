@@ -35,15 +35,17 @@ module _ (h : RequestHead) (action : RequestAction) (due : DueResponse) (goes : 
 
 -- ---- bodies that have ended
 
+-- a flag whose negation is false is true
 turned : (b : Bool) → not b ≡ false → b ≡ true
 turned true is = refl
 turned false is = cc
 
+-- a body with no bytes left to come has the framing of length 0
 over_is : (b : BodyFraming) → not (is_over b) ≡ false → b ≡ Length 0
 over_is (Length n) is = ap Length (eqb-true n 0 (turned (is_over (Length n)) is))
 over_is b is = cc
 
--- a refusal after which nothing of the body is to come is at the body's end
+-- a refusal at the last byte of a body by length is at the body's end
 ended_at : (target : IngestTarget) (size : ℕ) (body last : BodyFraming) (input content unread : List ℕ) (fault : StreamFault) (y : Progress)
     → IsRefusedAt size target content fault y → BodyRuns body input content last unread → ends_at body size ≡ true → last ≡ Length 0
 ended_at target size (Length n) last input content unread fault y refused runs ends =
@@ -58,7 +60,7 @@ ended_at target size body last input content unread fault y refused runs ends = 
 
 -- ---- by what is done with the body
 
--- a body that was taken to its end
+-- the body was read to its end
 abbrev pub IsAtEnd : BodyFraming → List ℕ → List ℕ → Type 0
 IsAtEnd body stream unread = (content : List ℕ) × BodyRuns body stream content (Length 0) unread
 
@@ -89,10 +91,11 @@ module _ (request : RoutedRequest) (acts : List Act) (due : DueResponse) (goes :
   skipped_by (Some route) body stream unread s =
       (s.content, rw (dropped route s.last s.content unread s.result s.discards s.skipped) at s.runs)
 
--- the body of a request, if its head announces one
+-- the head's framing is valid, and the body was read to its end
 abbrev pub HasBody : Result BodyFraming HttpFault → List ℕ → List ℕ → Type 0
 HasBody begins_so stream unread = (body : BodyFraming) × (begins_so ≡ Ok body) × IsAtEnd body stream unread
 
+-- if the reply to a request leaves the connection open, its head's framing is valid, and its body was read to the end
 followed : (begins_so : Result BodyFraming HttpFault) (known feeds : Bool) (request : RoutedRequest) (stream : List ℕ) (acts : List Act) (due : DueResponse) (unread : List ℕ)
     → due.closing ≡ false → HandlesBy (action_by begins_so known feeds) request stream acts due unread → HasBody begins_so stream unread
 followed (Err fault) known feeds request stream acts due unread goes f = absurd (early_due request.head request.action due goes (fault_answer fault) f.2)
@@ -109,7 +112,7 @@ followed (Ok body) true false request stream acts due unread goes f = by_size (e
 
 -- ---- a request
 
--- a whole request at the front of the stream, and the rest
+-- a request whose reply leaves the connection open is a whole request at the front of the stream, and the unread bytes follow it
 begun_so : (channel : ServedChannel) (stream : List ℕ) (acts : List Act) (due : DueResponse) (unread : List ℕ) → due.closing ≡ false → IsExchange channel stream acts due unread
     → (request : WholeRequest) × ReadsWholeRequest stream request unread
 begun_so channel stream acts due unread goes exchange =
@@ -121,6 +124,7 @@ begun_so channel stream acts due unread goes exchange =
 
 -- ---- a sequence of requests
 
+-- the requests whose replies leave the connection open are the first ones of the stream, and the rest follows directly
 pub requests_are_read : RequestsAreRead
 requests_are_read channel stream rest [] serves = record { requests = []; count_is = refl; cuts = serves }
 requests_are_read channel stream rest (x ∷ xs) (middle, exchange, serves) =

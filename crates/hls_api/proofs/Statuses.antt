@@ -11,6 +11,7 @@ use Rattle.hls_core_laws.proofs.Callers.{lanes_count, some_at}
 use Rattle.hls_playlists_laws.specs.Live.{has_closed_segment, live_list_in, live_list_of, live_list_over}
 use Rattle.hls_playlists_laws.proofs.Callers.{live-lists-have-texts}
 
+-- fewer than 10^15 segments were removed from the line of a valid state
 pub removed_small : (s : State) → IsState s → (line s).removed < 1000000000000000
 removed_small s state = elim (cases_Bool (has_closed_segment (line s))) [
   | inl any ↦

@@ -28,10 +28,10 @@ ActsExtendLinks =
 abbrev pub LinksStay : Type 0
 LinksStay = (a b c : Knowledge) (acts : List Act) → AreLinked a acts b → IsLaterKnowledge b c → AreLinked a acts c
 
--- linked acts lead from a state to one that follows it
+-- if linked acts begin at knowledge whose state is valid, they end at later knowledge, and its state is valid
 abbrev pub LinkedStatesFollow : Type 0
 LinkedStatesFollow = (a b : Knowledge) (acts : List Act) → IsState a.seen → AreLinked a acts b → IsState b.seen × IsLaterKnowledge a b
 
--- so does each act of another connection
+-- one act on a valid state leads to later knowledge of the keeper, and to a valid state
 abbrev pub ActsAreLater : Type 0
 ActsAreLater = (a b : Knowledge) (act : Act) → IsState a.seen → IsActStep a act b → IsState b.seen × IsLaterKnowledge a b

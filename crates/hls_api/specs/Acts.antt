@@ -20,28 +20,34 @@ pub data Act : Type 0 where
 
 -- ---- one act is added
 
+-- one act is added to the acts: a look that returned the state s
 abbrev pub RecordsLook : List Act → State → List Act → Type 0
 RecordsLook before s after = after ≡ before ++ Looked s ∷ []
 
--- .. a look that returned a state, or none
+-- one act is added to the acts: a look that returned a state, or one that failed
 abbrev pub RecordsLookResult : {A E : Type 0} → List Act → Result (Arc State A) E → List Act → Type 0
 RecordsLookResult before (Ok s) after = RecordsLook before s.value after
 RecordsLookResult before (Err e) after = after ≡ before ++ LookFailed ∷ []
 
+-- one act is added to the acts: an event that was submitted, with its outcome
 abbrev pub RecordsSubmit : List Act → Event → Result Done Refusal → List Act → Type 0
 RecordsSubmit before event answer after = after ≡ before ++ Submitted event answer ∷ []
 
+-- one act is added to the acts: a job that was added with the state s for a request, with the result
 abbrev pub RecordsAdd : List Act → State → Request → Result ℕ JobFault → List Act → Type 0
 RecordsAdd before s request result after = after ≡ before ++ Added s request result ∷ []
 
+-- one act is added to the acts: the removal of job `id`, with its result
 abbrev pub RecordsRemove : List Act → ℕ → Result (Unit {0}) JobFault → List Act → Type 0
 RecordsRemove before id result after = after ≡ before ++ Removed id result ∷ []
 
+-- one act is added to the acts: these readings of the encoders
 abbrev pub RecordsReading : List Act → EncoderReadings → List Act → Type 0
 RecordsReading before readings after = after ≡ before ++ ReadEncoders readings ∷ []
 
 -- ---- acts that change nothing
 
+-- the act is a look, whether it returned a state or failed
 abbrev pub IsLook : Act → Type 0
 IsLook (Looked s) = Unit {0}
 IsLook LookFailed = Unit {0}
@@ -52,10 +58,11 @@ abbrev pub IsFailedSubmit : Act → Type 0
 IsFailedSubmit (Submitted event (Err Memory)) = Unit {0}
 IsFailedSubmit act = ⊥
 
+-- the act is a look, or an event that failed with an allocation failure: neither changes the channel
 abbrev pub ChangesNothing : Act → Type 0
 ChangesNothing act = IsLook act ⊎ IsFailedSubmit act
 
--- no act, or one such act
+-- at most one act is added, and it is such an act
 abbrev pub AtMostOne : (Act → Type 0) → List Act → List Act → Type 0
 AtMostOne Is before after = (after ≡ before) ⊎ ((act : Act) × Is act × (after ≡ before ++ act ∷ []))
 
@@ -63,7 +70,7 @@ AtMostOne Is before after = (after ≡ before) ⊎ ((act : Act) × Is act × (af
 abbrev pub ActsChangeNothing : List Act → List Act → Type 0
 ActsChangeNothing before after = AtMostOne ChangesNothing before after
 
--- at most one look, and then at most one such event
+-- at most one look is added, and then at most one event that failed with an allocation failure
 abbrev pub LooksAndFailsToSubmit : List Act → List Act → Type 0
 LooksAndFailsToSubmit before after = (looked : List Act) × AtMostOne IsLook before looked × AtMostOne IsFailedSubmit looked after
 
@@ -76,9 +83,11 @@ pub record Knowledge : Type 0 where
   pub mine : List LoggedEvent
   pub acts : List Act
 
+-- what a keeper knows of the channel, without the acts
 abbrev pub view_of : Knowledge → PassView
 view_of a = record { number = a.number; seen = a.seen; mine = a.mine }
 
+-- what a keeper knows: its view of the channel, and these acts
 abbrev pub knowledge_of : PassView → List Act → Knowledge
 knowledge_of known acts = record { number = known.number; seen = known.seen; mine = known.mine; acts = acts }
 
@@ -86,7 +95,7 @@ knowledge_of known acts = record { number = known.number; seen = known.seen; min
 abbrev pub knowledge_after : Knowledge → Act → Knowledge
 knowledge_after a act = record a { acts = a.acts ++ act ∷ [] }
 
--- an act on the table of jobs doesn't change the channel, and nor does reading what is known of the encoders
+-- the effect of an act on what a keeper knows of the channel; adding or removing a job and reading the encoders have none
 abbrev pub HasEffect : PassView → Act → PassView → Type 0
 HasEffect a (Looked s) b = calls.Looks a s b
 HasEffect a LookFailed b = calls.MaySeeLater a b
@@ -107,7 +116,7 @@ Meets m a LookFailed b = MayBecome m a.seen b.seen
 Meets m a (Submitted event answer) b = HasMet m (view_of a) event (view_of b)
 Meets m a act b = Unit {0}
 
--- each act starts where the one before it led
+-- each act starts where the one before it led, from what is known first to what is known last
 abbrev pub AreActSteps : OtherActors → Knowledge → List Act → Knowledge → Type 0
 AreActSteps m a [] b = b ≡ a
 AreActSteps m a (act ∷ acts) b = (middle : Knowledge) × IsActStep a act middle × Meets m a act middle × AreActSteps m middle acts b

@@ -18,23 +18,27 @@ pub record Exchange : Type 0 where
   pub reply : List ℕ
   pub success : Bool
 
+-- the reply of an answered request, after which the connection stays open
 abbrev pub due_in : Exchange → DueResponse
 due_in x = record { text = x.reply; closing = false; success = x.success }
 
--- such requests are the first ones of the stream, in a channel; the rest follows
+-- these requests are the first ones of the stream and are answered in order, and the rest of the stream follows
 abbrev pub Serves : ServedChannel → List ℕ → List Exchange → List ℕ → Type 0
 Serves channel stream [] rest = rest ≡ stream
 Serves channel stream (x ∷ xs) rest = (middle : List ℕ) × IsExchange channel stream x.acts (due_in x) middle × Serves channel middle xs rest
 
+-- the acts of all these requests, in order
 abbrev pub acts_of : List Exchange → List Act
 acts_of xs = flat_map (λ x. x.acts) xs
 
+-- the replies to all these requests, joined in order
 abbrev pub text_of : List Exchange → List ℕ
 text_of xs = flat_map (λ x. x.reply) xs
 
 -- ---- the history of a connection
 
--- all bytes received, and whether the input has ended; the unread bytes; the acts; all bytes sent, and those pending
+-- the history of a connection: all bytes received, and whether the input has ended; the unread bytes; the acts;
+-- all bytes sent, and those pending
 pub record History : Type 0 where
   pub received : List ℕ
   pub ended : Bool
@@ -43,6 +47,7 @@ pub record History : Type 0 where
   pub sent : List ℕ
   pub pending : List ℕ
 
+-- all bytes that the connection made: those sent, and then those pending
 abbrev pub output : History → List ℕ
 output h = h.sent ++ h.pending
 
@@ -79,7 +84,7 @@ pub record IsWithin (channel : ServedChannel) (stream : List ℕ) (acts : List A
   pub asked : AreBodyActs channel head body content last acts
   pub text_is : text ≡ continue_prefix head (request_of channel head).action
 
--- .. whose body ends early
+-- a request whose body is being read, and whose unread bytes end before a step of the body
 pub record IsCutShort (channel : ServedChannel) (stream : List ℕ) (acts : List Act) (text unread : List ℕ) : Type 0 where
   pub within : IsWithin channel stream acts text unread
   pub unfinished : IsOpen within.last unread
@@ -92,7 +97,7 @@ pub record EndsByReply (channel : ServedChannel) (success : Bool) (stream : List
   pub text_is : text ≡ due.text
   pub exchange : IsExchange channel stream acts due unread ⊎ (RefusesHead stream due × (acts ≡ []) × (unread ≡ stream))
 
--- nothing of the stream after the answered requests was taken
+-- after the answered requests, all bytes are unread, and there are no acts and no text for the next request
 abbrev pub IsBetween : List ℕ → List Act → List ℕ → List ℕ → Type 0
 IsBetween stream acts text unread = (unread ≡ stream) × (acts ≡ []) × (text ≡ [])
 

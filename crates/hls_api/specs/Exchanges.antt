@@ -38,6 +38,7 @@ pub record RequestParams : Type 0 where
   pub query : List ℕ
   pub range : RangeSpec
 
+-- what a head asks for in a channel: the route of its path, its method, its query, and the range of its Range fields
 abbrev pub params_of : ServedChannel → RequestHead → RequestParams
 params_of channel h = record {
   route = route_of channel (path_of h.target);
@@ -59,45 +60,45 @@ range_for to_head range = cond to_head asks.All range
 -- ---- acts on the channel: at most one look or one event for each request other than an encoder's body. `a` are the acts before it,
 -- and `b` those up to its end: no case allows more than it names
 
--- the reply is made of the state that is seen
+-- one look is added, and the reply is made of the state that it returned
 abbrev pub RespondsWithState : List Act → List Act → (State → ResponseData) → ResponseData → Type 0
 RespondsWithState a b shown answer = (s : State) × RecordsLook a s b × (answer ≡ shown s)
 
--- the reply is the event's outcome
+-- the event Finish of rendition r is submitted, without an allocation failure, and the reply is its outcome
 abbrev pub FinishesRendition : List Act → ℕ → List Act → ResponseData → Type 0
 FinishesRendition a r b answer = (done : Result Done Refusal) × RecordsSubmit a (Finish r) done b × (done ≢ Err Memory) × (answer ≡ finish_answer done)
 
--- the reply shows a programme of the state that is seen
+-- one look is added, and `Shows` holds of the state that it returned and the reply
 abbrev pub RespondsWithSome : List Act → List Act → (State → ResponseData → Type 0) → ResponseData → Type 0
 RespondsWithSome a b Shows answer = (s : State) × RecordsLook a s b × Shows s answer
 
--- a query that is invalid in any channel needs no look
+-- the acts and the reply for a file of a programme: an invalid query is refused without a look, any other is answered from one look
 abbrev pub HandlesProgramme : Option CatchupQuery → ProgrammeFile → List Act → List Act → ResponseData → Type 0
 HandlesProgramme None file a b answer = (b ≡ a) × (answer ≡ invalid_answer)
 HandlesProgramme (Some query) file a b answer = RespondsWithSome a b (λ s shown. ShowsProgramme s query file shown) answer
 
 -- ---- acts on the table of jobs: one addition where a recording is asked for, one removal where a job is deleted, and no other
 
--- a job is added with a state, and the reply is the result
+-- a job is added with the state s for the request of these parameters, and the reply is the result
 pub record AddsJob (s : State) (params : CatchupParams) (a b : List Act) (answer : ResponseData) : Type 0 where
   pub result : Result ℕ JobFault
   pub asked : RecordsAdd a s (request_for s params) result b
   pub adds : IsAddResult s (request_for s params) result
   pub answer_is : answer ≡ added_answer (served_version s) result
 
--- an invalid query is reported before a full table
+-- parameters that aren't valid are refused without an act; valid ones add a job
 abbrev pub AddsValidJob : State → Result CatchupParams QueryFault → List Act → List Act → ResponseData → Type 0
 AddsValidJob s (Err fault) a b answer = (b ≡ a) × (answer ≡ query_answer fault)
 AddsValidJob s (Ok params) a b answer = AddsJob s params a b answer
 
--- by the epoch of the state that is seen, which is the same in every state of the channel
+-- the state is looked at, and a job is added with it, with times by that state's epoch, which all states of the channel share
 pub record AddsCatchupJob (query : CatchupQuery) (a b : List Act) (answer : ResponseData) : Type 0 where
   pub state : State
   pub looked : List Act
   pub looks : RecordsLook a state looked
   pub adds : AddsValidJob state (catchup_params_of state.config.epoch query) looked b answer
 
--- a query that is invalid in any channel needs no look
+-- the acts and the reply for a catch-up request: an invalid query is refused without a look, any other adds a job after one look
 abbrev pub HandlesCatchup : Option CatchupQuery → List Act → List Act → ResponseData → Type 0
 HandlesCatchup None a b answer = (b ≡ a) × (answer ≡ query_answer BadQuery)
 HandlesCatchup (Some query) a b answer = AddsCatchupJob query a b answer
@@ -108,6 +109,7 @@ IsJobResponse (Ok job) shown answer = shown job ≡ Some answer
 IsJobResponse (Err UnknownJob) shown answer = answer ≡ fault_answer http.NotFound
 IsJobResponse (Err fault) shown answer = ⊥
 
+-- the reply is made of what a table of jobs returned for this id
 abbrev pub RespondsWithJob : ℕ → (Job → Option ResponseData) → ResponseData → Type 0
 RespondsWithJob id shown answer = (found : Result Job JobFault) × IsGetResult id found × IsJobResponse found shown answer
 
@@ -117,7 +119,7 @@ shown_at q (routes.Job id) job = job_answer job
 shown_at q (routes.JobFile id file) job = file_answer file (range_for (is_to_head q.method) q.range) job
 shown_at q route job = None
 
--- .. or that the route doesn't allow the method
+-- the reply about a job that exists: 405 if the route doesn't allow the method
 abbrev pub shown_if : RequestParams → Route → Bool → Job → Option ResponseData
 shown_if q route true job = shown_at q route job
 shown_if q route false job = Some (method_answer route)
@@ -129,6 +131,7 @@ pub record RemovesJob (id : ℕ) (a b : List Act) (answer : ResponseData) : Type
   pub removes : HasRemoved id result
   pub answer_is : answer ≡ removed_answer result
 
+-- a request for a job removes it, if the flag says so; otherwise no act is added, and the reply describes the job or one of its files
 abbrev pub ServesJob : RequestParams → Route → ℕ → List Act → ResponseData → List Act → Bool → Type 0
 ServesJob q route id a answer b true = RemovesJob id a b answer
 ServesJob q route id a answer b false = (b ≡ a) × RespondsWithJob id (shown_if q route (allows route q.method)) answer
@@ -146,7 +149,7 @@ IsForPlayer (routes.Segment run r first last) = ⊤
 IsForPlayer (routes.Since start file) = ⊤
 IsForPlayer route = ⊥
 
--- what a player is shown of a state
+-- what a player's route shows of a state; none for another route
 abbrev pub shown_to_player : RequestParams → Route → State → Option ResponseData
 shown_to_player q routes.PathMaster s = Some (path_master_answer s)
 shown_to_player q (routes.PathList r) s = Some (live_list_answer Paths s r)
@@ -157,7 +160,7 @@ shown_to_player q (routes.Segment run r first last) s = Some (segment_answer s r
 shown_to_player q (routes.Since start file) s = Some (since_answer s start file)
 shown_to_player q route s = None
 
--- if the route allows the method
+-- the acts and the reply for a request whose route allows the method; jobs and encoders' bodies have their own rules
 abbrev pub IsServedBy : RequestParams → Route → List Act → ResponseData → List Act → Type 0
 IsServedBy q (routes.Finish r) a answer b = FinishesRendition a r b answer
 IsServedBy q routes.LiveMaster a answer b = RespondsWithState a b (λ s. playlist_answer (live_master_text s)) answer
@@ -178,22 +181,23 @@ IsServedBy q routes.Metrics a answer b =
     (jobs : ℕ) × HasCounted jobs × ((measured : Measured) × RespondsWithState a b (λ s. metrics_answer s jobs measured) answer)
 IsServedBy q route a answer b = ⊥
 
+-- the reply to a request for no job: the route's own if it allows the method; otherwise no act is added, and it is 405 with Allow
 abbrev pub ServesAllowed : RequestParams → Route → List Act → ResponseData → List Act → Bool → Type 0
 ServesAllowed q route a answer b true = IsServedBy q route a answer b
 ServesAllowed q route a answer b false = (b ≡ a) × (answer ≡ method_answer route)
 
--- the job of a route
+-- the number of the job that a route names, if it names one
 abbrev pub job_at : Route → Option ℕ
 job_at (routes.Job id) = Some id
 job_at (routes.JobFile id file) = Some id
 job_at route = None
 
--- an unknown job comes before a method that the route doesn't allow
+-- the acts and the reply for a request; if its route names a job, 404 for an unknown job precedes 405 for the method
 abbrev pub ServesBy : RequestParams → Route → List Act → ResponseData → List Act → Option ℕ → Type 0
 ServesBy q route a answer b (Some id) = ServesJob q route id a answer b (removes_job route q.method)
 ServesBy q route a answer b None = ServesAllowed q route a answer b (allows route q.method)
 
--- the answer to a request, or out of memory
+-- the acts and the reply for a request; without a reply, for lack of memory, the acts changed nothing
 abbrev pub Responds : RequestParams → Route → List Act → Option ResponseData → List Act → Type 0
 Responds q route a (Some answer) b = ServesBy q route a answer b (job_at route)
 Responds q route a None b = ActsChangeNothing a b
@@ -210,9 +214,11 @@ pub record DueResponse : Type 0 where
 abbrev pub continue_prefix : RequestHead → RequestAction → List ℕ
 continue_prefix h action = cond (sends_continue h action) continue_text []
 
+-- whether the method of a request is HEAD
 abbrev pub to_head : RequestHead → Bool
 to_head h = is_to_head (method_of h.method)
 
+-- the reply for an answer, after 100 Continue if the client waits for it; it says Connection: close if the head asks for that or it is early
 abbrev pub due_for : RequestHead → RequestAction → ResponseData → Bool → DueResponse
 due_for h action answer early = record {
   text = continue_prefix h action ++ answer_text answer (sends_close h early) (to_head h);
@@ -220,38 +226,41 @@ due_for h action answer early = record {
   success = is_success answer.status;
 }
 
--- out of memory has one reply
+-- the out-of-memory reply that is due, after 100 Continue if the client waits for it; it closes the connection
 abbrev pub due_for_memory : RequestHead → RequestAction → DueResponse
 due_for_memory h action = record { text = continue_prefix h action ++ out_of_memory_response (to_head h); closing = true; success = false }
 
+-- the reply that is due for an answer, or the out-of-memory reply if there is none
 abbrev pub due_for_maybe : RequestHead → RequestAction → Option ResponseData → Bool → DueResponse
 due_for_maybe h action None early = due_for_memory h action
 due_for_maybe h action (Some answer) early = due_for h action answer early
 
--- the answer, or the out-of-memory reply
+-- the reply that is due is the answer or the out-of-memory reply
 abbrev pub IsDue : RequestHead → RequestAction → ResponseData → Bool → DueResponse → Type 0
 IsDue h action answer early due = (due ≡ due_for h action answer early) ⊎ (due ≡ due_for_memory h action)
 
--- where a body stopped early: only bad framing gets a reply
+-- the reply that is due for a body that stopped early: only one with bad framing gets a reply
 abbrev pub IsDueAtStop : RequestHead → RequestAction → BodyEnd → DueResponse → Type 0
 IsDueAtStop h action bodies.BadFraming due = IsDue h action (fault_answer http.BadFraming) true due
 IsDueAtStop h action end due = ⊥
 
 -- ---- discarded bodies
 
--- the size line of a chunk that would exceed the limit
+-- the unread bytes begin with the size line of a chunk that would exceed the limit of a discarded body
 pub record IsPastLimit (content unread : List ℕ) : Type 0 where
   pub size : ℕ
   pub rest : List ℕ
   pub line : ReadsLine unread size rest
   pub many : discard_limit < length content + size
 
--- this content was discarded; these bytes are unread
+-- the result of discarding this content: the whole body was within the limit, it is too large, or it stopped early
 abbrev pub DiscardsBody : List ℕ → BodyFraming → List ℕ → Result (Unit {0}) DiscardEnd → Type 0
 DiscardsBody content last unread (Ok done) = (last ≡ Length 0) × (length content ≤ discard_limit)
 DiscardsBody content last unread (Err discards.TooLarge) = (last ≡ Size) × IsPastLimit content unread
 DiscardsBody content last unread (Err (discards.Stopped end)) = (length content + announced_len last ≤ discard_limit) × IsBodyStop last unread end
 
+-- the acts and the reply after a body was discarded: the route's answer after a whole body;
+-- 413 without acts for one that is too large; and for one that stopped early what is due there
 abbrev pub IsDiscardDue : RoutedRequest → Route → List Act → DueResponse → Result (Unit {0}) DiscardEnd → Type 0
 IsDiscardDue request route acts due (Ok done) =
     (answer : Option ResponseData) × Responds request.asks route [] answer acts
@@ -259,6 +268,7 @@ IsDiscardDue request route acts due (Ok done) =
 IsDiscardDue request route acts due (Err discards.TooLarge) = (acts ≡ []) × IsDue request.head request.action (fault_answer http.TooLarge) true due
 IsDiscardDue request route acts due (Err (discards.Stopped end)) = (acts ≡ []) × IsDueAtStop request.head request.action end due
 
+-- a body is read and discarded, and the reply that is then due is the route's answer or a refusal of the body
 pub record DiscardsThenResponds (request : RoutedRequest) (route : Route) (body : BodyFraming) (stream : List ℕ) (acts : List Act) (due : DueResponse) (unread : List ℕ) : Type 0 where
   pub content : List ℕ
   pub last : BodyFraming
@@ -269,21 +279,23 @@ pub record DiscardsThenResponds (request : RoutedRequest) (route : Route) (body 
 
 -- ---- encoders' bodies
 
+-- the reply to an ingested body: 200 with its counts, those of mending included if units are mended
 abbrev pub ingested_answer : IngestTarget → Progress → ResponseData
 ingested_answer target y = text_answer statuses.Done (counts_text (is_some target.mending) y.counts)
 
--- the name of the deepest fault, and the counts of what was accepted before
+-- the reply to a refused body: the name of its fault, and the counts of what was accepted before
 abbrev pub ingest_refused_answer : IngestTarget → StreamFault → Progress → ResponseData
 ingest_refused_answer target fault y =
     text_answer (status_of fault) (codes "refused " ++ (name_of fault ++ (32 ∷ counts_text (is_some target.mending) y.counts)))
 
--- by whether a part of the body is still to come after what is refused
+-- the reply that is due for an encoder's body by how it ended; `early` says whether more of the body was still to come
 abbrev pub IsIngestDue : IngestTarget → RequestHead → RequestAction → Bool → Progress → DueResponse → Result (Unit {0}) IngestStop → Type 0
 IsIngestDue target h action early y due (Ok done) = IsDue h action (ingested_answer target y) false due
 IsIngestDue target h action early y due (Err (ingest_stops.Refused fault)) = IsDue h action (ingest_refused_answer target fault y) early due
 IsIngestDue target h action early y due (Err ingest_stops.Memory) = due ≡ due_for_memory h action
 IsIngestDue target h action early y due (Err (ingest_stops.Stopped end)) = IsDueAtStop h action end due
 
+-- an encoder's body is read and its content ingested; the acts are those of its parts, and the reply says how it ended
 pub record Ingests (request : RoutedRequest) (target : IngestTarget) (body : BodyFraming) (stream : List ℕ) (acts : List Act) (due : DueResponse) (unread : List ℕ) : Type 0 where
   pub content : List ℕ
   pub last : BodyFraming
@@ -297,11 +309,12 @@ pub record Ingests (request : RoutedRequest) (target : IngestTarget) (body : Bod
 
 -- ---- a request: from the end of its head, where its body begins, to the bytes that are unread when the reply is sent
 
--- the rendition that an encoder's body is for
+-- the body of a request to this route is ingested; there is no such case for a route that isn't an encoder's
 abbrev pub IngestsBy : Option Route → RoutedRequest → BodyFraming → List ℕ → List Act → DueResponse → List ℕ → Type 0
 IngestsBy (Some (routes.Ingest r)) request body stream acts due unread = Ingests request r body stream acts due unread
 IngestsBy route request body stream acts due unread = ⊥
 
+-- the body of a request to this route is discarded; there is no such case without a route
 abbrev pub DiscardsBy : Option Route → RoutedRequest → BodyFraming → List ℕ → List Act → DueResponse → List ℕ → Type 0
 DiscardsBy None request body stream acts due unread = ⊥
 DiscardsBy (Some route) request body stream acts due unread = DiscardsThenResponds request route body stream acts due unread
@@ -313,6 +326,7 @@ HandlesBy (Refuse fault closing) request stream acts due unread =
 HandlesBy (Ingest body) request stream acts due unread = IngestsBy request.asks.route request body stream acts due unread
 HandlesBy (Discard body) request stream acts due unread = DiscardsBy request.asks.route request body stream acts due unread
 
+-- what is done with a request, by its head's framing, whether its path is known, and whether its body is ingested
 abbrev pub action_for : RequestHead → RequestParams → RequestAction
 action_for h q = action_by (framing_of_head h) (is_some q.route) (takes_ingest q.route q.method)
 
@@ -329,12 +343,15 @@ pub record IsExchange (channel : ServedChannel) (stream : List ℕ) (acts : List
 
 -- ---- where no head can follow
 
+-- the reply to a head that is refused: the fault's answer with Connection: close
 abbrev pub refused_head : HttpFault → DueResponse
 refused_head fault = record { text = answer_text (fault_answer fault) true false; closing = true; success = false }
 
+-- the reply that is due where no head was read: the refusal, or the out-of-memory reply to a request that isn't HEAD
 abbrev pub IsDueWithoutHead : HttpFault → DueResponse → Type 0
 IsDueWithoutHead fault due = (due ≡ refused_head fault) ⊎ (due ≡ record { text = out_of_memory_response false; closing = true; success = false })
 
+-- no request can begin with the unread bytes, and 400 is due; or they begin a head that is too large, and 431 is due
 abbrev pub RefusesHead : List ℕ → DueResponse → Type 0
 RefusesHead unread due =
     (NeverHasRequest unread × IsDueWithoutHead http.BadHead due) ⊎ (IsTooLarge unread × IsDueWithoutHead http.HeadTooLarge due)

@@ -19,7 +19,7 @@ reaches_back zero fs from_us count = false
 reaches_back (suc most) fs from_us zero = false
 reaches_back (suc most) fs from_us (suc n) = nat_le (fact_at fs n).start_us from_us || (is_joined fs n && reaches_back most fs from_us n)
 
--- the last 4096 units of a recording
+-- whether the last 4096 units of a recording, or as many as there are, reach back to a moment without a hole
 abbrev pub reaches_in : ℕ → Option RecordingData → Bool
 reaches_in from_us None = false
 reaches_in from_us (Some rec) = reaches_back 4096 rec.facts from_us (length rec.facts)
@@ -28,19 +28,21 @@ reaches_in from_us (Some rec) = reaches_back 4096 rec.facts from_us (length rec.
 abbrev pub continues_over : ℕ → ℕ → ℕ → Option RecordingData → Bool
 continues_over fill_us from_us to_us rec = not (is_ahead_by fill_us (end_us_in rec) to_us) && reaches_in from_us rec
 
--- whether one of the first n renditions does
+-- whether one of the first n renditions continues over the gap
 unfoldable pub any_continues : ℕ → ℕ → ℕ → State → ℕ → Bool
 any_continues fill_us from_us to_us s zero = false
 any_continues fill_us from_us to_us s (suc n) = any_continues fill_us from_us to_us s n || continues_over fill_us from_us to_us (recording_of s n)
 
--- a gap of more than `fill_us` that no other rendition has
+-- a gap of more than `fill_us` over which one of the renditions continues
 abbrev pub is_own_gap : ℕ → ℕ → ℕ → State → Bool
 is_own_gap fill_us from_us to_us s = is_ahead_of fill_us from_us to_us && any_continues fill_us from_us to_us s (length s.config.renditions)
 
+-- the longest gap that is filled, in microseconds: `fill_us`, or if another rendition continues over it ten times that, at most 2^32 - 1
 abbrev pub gap_limit : Bool → ℕ → ℕ
 gap_limit true fill_us = min (10 * fill_us) (2 ^ 32 - 1)
 gap_limit false fill_us = fill_us
 
+-- the longest gap that is filled before a unit that starts at `start_us`, by the end of the rendition's last unit, if it has one
 abbrev pub gap_limit_after : ℕ → State → Option ℕ → ℕ → ℕ
 gap_limit_after fill_us s None start_us = fill_us
 gap_limit_after fill_us s (Some end_us) start_us = gap_limit (is_own_gap fill_us end_us start_us s) fill_us

@@ -28,10 +28,12 @@ use Rattle.hls_api.specs.declared.ingest.IngestStop.TheVariants as ingest_stops
 abbrev pub one_more : ℕ → ℕ
 one_more n = min (n + 1) 18446744073709551615
 
+-- the counts after an accepted init section: one more init section, or one more repeat
 abbrev pub with_init : Done → IngestCounts → IngestCounts
 with_init (done.New version) c = record c { inits = one_more c.inits }
 with_init done.Repeat c = record c { repeats = one_more c.repeats }
 
+-- the counts after an accepted unit: one more unit, or one more repeat
 abbrev pub with_unit : Done → IngestCounts → IngestCounts
 with_unit (done.New version) c = record c { units = one_more c.units }
 with_unit done.Repeat c = record c { repeats = one_more c.repeats }
@@ -61,9 +63,11 @@ pub record Progress : Type 0 where
   pub counts : IngestCounts
   pub end : Option ℕ
 
+-- the counts of a body before its first part
 abbrev pub no_counts : IngestCounts
 no_counts = record { inits = 0; units = 0; repeats = 0; mended = 0; filled = 0; dropped = 0 }
 
+-- the progress of a body before its first part
 abbrev pub no_progress : Progress
 no_progress = record { acts = []; init = None; counts = no_counts; end = None }
 
@@ -74,6 +78,7 @@ pub record LooksUpInit (r : ℕ) (x : Progress) (found : Option InitData) (z : L
   pub looks : RecordsLook x.acts state z
   pub found_is : found ≡ option_map (λ rec. rec.init) (recording_of state r)
 
+-- the init section for a body's units: the one that was looked up before, without an act, or the one that is looked up now
 abbrev pub FindsInit : ℕ → Progress → InitData → List Act → Type 0
 FindsInit r x init z = ((x.init ≡ Some init) × (z ≡ x.acts)) ⊎ LooksUpInit r x (Some init) z
 
@@ -98,6 +103,7 @@ pub record TakesUnit (r : ℕ) (x : Progress) (bytes : List ℕ) (y : Progress) 
   pub kept : y.init ≡ Some init
   pub counts : y.counts ≡ with_unit done x.counts
 
+-- a part is accepted: an init section or a unit
 abbrev pub TakesPart : ℕ → Progress → Part → Progress → Type 0
 TakesPart r x (parts.Init bytes) y = TakesInit r x bytes y
 TakesPart r x (parts.Unit bytes) y = TakesUnit r x bytes y
@@ -127,12 +133,14 @@ pub record RefusesUnitAt (r : ℕ) (x : Progress) (bytes : List ℕ) (refusal : 
   pub not_memory : refusal ≢ Memory
   pub submits : RecordsSubmit looked (Accept r facts bytes) (Err refusal) z
 
+-- a unit is refused: it is invalid, it comes before any init section, or the channel refuses it
 abbrev pub RefusesUnit : ℕ → Progress → List ℕ → StreamFault → List Act → Type 0
 RefusesUnit r x bytes (Boxes fault) z = ⊥
 RefusesUnit r x bytes (Media fault) z = (init : InitData) × FindsInit r x init z × (facts init bytes ≡ Err fault)
 RefusesUnit r x bytes (Core refusal) z = IsTooEarly r x refusal z ⊎ RefusesUnitAt r x bytes refusal z
 RefusesUnit r x bytes AheadOfChannel z = ⊥
 
+-- a part is refused: an init section or a unit
 abbrev pub RefusesPart : ℕ → Progress → Part → StreamFault → List Act → Type 0
 RefusesPart r x (parts.Init bytes) fault z = RefusesInit r x.acts bytes fault z
 RefusesPart r x (parts.Unit bytes) fault z = RefusesUnit r x bytes fault z
@@ -150,6 +158,7 @@ abbrev pub chosen_init : Option RecordingData → List ℕ → List ℕ
 chosen_init None bytes = bytes
 chosen_init (Some rec) bytes = cond (is_same_to_decoders rec.head bytes) rec.head bytes
 
+-- the state is looked at, and the init section is chosen by the rendition's recording in it
 pub record ChoosesInit (r : ℕ) (x : Progress) (bytes chosen : List ℕ) (looked : List Act) : Type 0 where
   pub state : State
   pub looks : RecordsLook x.acts state looked
@@ -183,7 +192,7 @@ DecidesUnit settings r end init u before mended after =
     ⊎ ((end ≢ Some u.facts.start)
     × ((state : State) × (looked : List Act) × RecordsLook before state looked × MaySubmit settings r state u.facts looked after true × (mended ≡ mended_for (settings_for settings state r u.facts.start_us) init u (recording_of state r))))
 
--- .. by which it may not be submitted
+-- by a look, a unit that doesn't continue the body's last one may not be submitted
 abbrev pub RefusesAhead : MendSettings → ℕ → Option ℕ → Facts → List Act → List Act → Type 0
 RefusesAhead settings r end f before after =
     (end ≢ Some f.start) × ((state : State) × (looked : List Act) × RecordsLook before state looked × MaySubmit settings r state f looked after false)
@@ -193,17 +202,18 @@ abbrev pub with_filler : Result Done Refusal → IngestCounts → IngestCounts
 with_filler (Ok (done.New version)) c = record c { filled = one_more c.filled }
 with_filler answer c = c
 
+-- a filler is submitted, and the counts follow its outcome; it neither overlaps nor fails with an allocation failure
 abbrev pub SubmitsFiller : ℕ → ReadUnit → IngestCounts → List Act → IngestCounts → List Act → Type 0
 SubmitsFiller r u c before counts after =
     (answer : Result Done Refusal) × (answer ≢ Err Memory) × (answer ≢ Err Overlap) × RecordsSubmit before (Accept r u.facts u.bytes) answer after × (counts ≡ with_filler answer c)
 
--- .. one after another
+-- the fillers are submitted one after another, and the counts follow the outcomes
 abbrev pub SubmitsFillers : ℕ → List ReadUnit → IngestCounts → List Act → IngestCounts → List Act → Type 0
 SubmitsFillers r [] c before counts after = (after ≡ before) × (counts ≡ c)
 SubmitsFillers r (u ∷ us) c before counts after =
     (some : IngestCounts) × (middle : List Act) × SubmitsFiller r u c before some middle × SubmitsFillers r us some middle counts after
 
--- the unit itself: one that the channel refuses as overlapping is left out, and the body continues
+-- the counts after a unit's outcome: mended or accepted, a repeat, or dropped if it overlaps; another refusal counts nothing
 abbrev pub with_mended : Bool → Result Done Refusal → IngestCounts → IngestCounts
 with_mended true (Ok (done.New version)) c = record c { mended = one_more c.mended }
 with_mended false (Ok (done.New version)) c = record c { units = one_more c.units }
@@ -211,18 +221,20 @@ with_mended changed (Ok done.Repeat) c = record c { repeats = one_more c.repeats
 with_mended changed (Err Overlap) c = record c { dropped = one_more c.dropped }
 with_mended changed (Err refusal) c = c
 
+-- the end in ticks of the body's last recorded unit, after a unit's outcome: its own if it is new, none if it overlapped, else as before
 abbrev pub end_after : Facts → Result Done Refusal → Option ℕ → Option ℕ
 end_after f (Ok (done.New version)) end = Some (f.start + f.duration)
 end_after f (Err Overlap) end = None
 end_after f answer end = end
 
+-- what a mended unit's outcome means for its body: an accepted or overlapping one doesn't stop it, and any other refusal does
 abbrev pub mended_result : Result Done Refusal → Result (Unit {0}) FeedFault
 mended_result (Ok done) = Ok tt
 mended_result (Err Overlap) = Ok tt
 mended_result (Err Memory) = Err feed_faults.Memory
 mended_result (Err refusal) = Err (feed_faults.Refused (Core refusal))
 
--- what is to be submitted for a unit, and the acts that led to it
+-- the unit is read, and what is submitted for it is decided; `seen` are the acts up to there
 pub record DecidesPart (settings : MendSettings) (r : ℕ) (x : Progress) (bytes : List ℕ) (init : InitData) (mended : Mended) (seen : List Act) : Type 0 where
   pub looked : List Act
   pub finds : FindsInit r x init looked
@@ -278,7 +290,7 @@ pub record FailsInFillers (settings : MendSettings) (r : ℕ) (x : Progress) (by
   pub fills : SubmitsFillers r (take count mended.fillers) x.counts seen filled before
   pub failed : AtMostOne IsFailedSubmit before after
 
--- a unit that is ahead of the channel while another rendition isn't
+-- a unit isn't submitted, since it is ahead of the channel while another rendition continues
 pub record IsAhead (settings : MendSettings) (r : ℕ) (x : Progress) (bytes : List ℕ) (z : List Act) : Type 0 where
   pub init : InitData
   pub looked : List Act
@@ -287,19 +299,20 @@ pub record IsAhead (settings : MendSettings) (r : ℕ) (x : Progress) (bytes : L
   pub reads : IsUnit init bytes facts
   pub refuses : RefusesAhead settings r x.end facts looked z
 
--- no unit, a unit before any init section, or a unit that is ahead of the channel
+-- a unit is refused before it is submitted: it is invalid, comes before any init section, or is ahead of the channel
 abbrev pub RefusesUnitBefore : MendSettings → ℕ → Progress → List ℕ → StreamFault → List Act → Type 0
 RefusesUnitBefore settings r x bytes (Boxes fault) z = ⊥
 RefusesUnitBefore settings r x bytes (Media fault) z = (init : InitData) × FindsInit r x init z × (facts init bytes ≡ Err fault)
 RefusesUnitBefore settings r x bytes (Core refusal) z = IsTooEarly r x refusal z
 RefusesUnitBefore settings r x bytes AheadOfChannel z = IsAhead settings r x bytes z
 
--- the unit itself isn't submitted: it is no unit, it comes before any init section, it is ahead of the channel, or an allocation failed
+-- the unit itself isn't submitted: it is invalid, it comes before any init section, it is ahead of the channel, or an allocation failed
 abbrev pub StopsBeforeUnit : MendSettings → ℕ → Progress → List ℕ → Progress → Result (Unit {0}) FeedFault → Type 0
 StopsBeforeUnit settings r x bytes y (Ok taken) = ⊥
 StopsBeforeUnit settings r x bytes y (Err feed_faults.Memory) = FailsToMend x.acts y.acts ⊎ FailsInFillers settings r x bytes y.acts
 StopsBeforeUnit settings r x bytes y (Err (feed_faults.Refused fault)) = RefusesUnitBefore settings r x bytes fault y.acts × (y.counts ≡ x.counts)
 
+-- how a part of a body is taken if units are mended: an init section or a unit, with the new progress and the result
 abbrev pub MendsPart : MendSettings → ℕ → Progress → Part → Progress → Result (Unit {0}) FeedFault → Type 0
 MendsPart settings r x (parts.Init bytes) y result = MendsInit r x bytes y result
 MendsPart settings r x (parts.Unit bytes) y result =
@@ -307,15 +320,16 @@ MendsPart settings r x (parts.Unit bytes) y result =
 
 -- ---- a body, by its whole content
 
--- what becomes of a part, by whether units are mended
+-- how a part of a body is taken: it is mended if there are settings for that, else taken as it was sent
 abbrev pub ingests_by : Option MendSettings → ℕ → Progress → Part → Progress → Result (Unit {0}) FeedFault → Type 0
 ingests_by None r x part y result = HandlesPart r x part y result
 ingests_by (Some settings) r x part y result = MendsPart settings r x part y result
 
+-- how a part of a body for this target is taken: it is mended if the target says so
 abbrev pub IngestsPart : IngestTarget → Progress → Part → Progress → Result (Unit {0}) FeedFault → Type 0
 IngestsPart target x part y result = ingests_by target.mending target.rendition x part y result
 
--- why a body is abandoned before its end
+-- why a body is abandoned before its end: a part was refused, or an allocation failed
 abbrev pub ingest_stop_of : FeedFault → IngestStop
 ingest_stop_of (feed_faults.Refused fault) = ingest_stops.Refused fault
 ingest_stop_of feed_faults.Memory = ingest_stops.Memory

@@ -14,6 +14,7 @@ use Rattle.hls_api.specs.declared.route.JobFile.TheVariants as files
 
 -- ---- added, removed
 
+-- an invalid query is 400 with the name of its fault
 abbrev pub query_answer : QueryFault → ResponseData
 query_answer fault = text_answer BadRequest (refusal_body (query_fault_name fault))
 
@@ -29,7 +30,7 @@ removed_answer (Err fault) = fault_answer http.NotFound
 
 -- ---- the status of a job
 
--- its line; none if it failed with an allocation failure, which has the out-of-memory reply
+-- the line of a job's status; none if it failed with an allocation failure, which has the out-of-memory reply
 abbrev pub job_answer : Job → Option ResponseData
 job_answer job = option_map (text_answer Done) (job_line job)
 
@@ -52,11 +53,12 @@ reply_answer (files.List r) range reply = list_answer (playlist_file reply r)
 reply_answer (files.Media r) range reply = resource_answer (resource_of reply r) range
 reply_answer files.Certificate range reply = text_answer Done (certificate_file reply)
 
+-- a file of a finished job: 404 if the job was refused
 abbrev pub result_answer : JobFile → RangeSpec → Result ReplyData CatchFault → Option ResponseData
 result_answer file range (Ok reply) = Some (reply_answer file range reply)
 result_answer file range (Err fault) = Some (fault_answer http.NotFound)
 
--- a file of a job; none if it is unfinished, was refused, or failed with an allocation failure
+-- a file of a job: 409 until it is finished, 404 if it was refused; none if it failed with an allocation failure
 abbrev pub file_answer : JobFile → RangeSpec → Job → Option ResponseData
 file_answer file range jobs.Waiting = Some (fault_answer http.Conflict)
 file_answer file range jobs.Running = Some (fault_answer http.Conflict)

@@ -11,6 +11,7 @@ use Rattle.hls_api.specs.declared.encoder_readings.EncoderReadings.{EncoderReadi
 
 -- ---- units that are ahead
 
+-- the later of two times, if there are any
 abbrev pub later : Option ℕ → Option ℕ → Option ℕ
 later None b = b
 later (Some a) None = Some a
@@ -26,6 +27,7 @@ unfoldable pub newest_end : State → ℕ → Option ℕ
 newest_end s zero = None
 newest_end s (suc n) = later (newest_end s n) (end_us_in (recording_of s n))
 
+-- whether a unit starts more than `fill_us` after this newest end; it doesn't if there is no end
 abbrev pub is_ahead_by : ℕ → Option ℕ → ℕ → Bool
 is_ahead_by fill_us None start_us = false
 is_ahead_by fill_us (Some newest_us) start_us = is_ahead_of fill_us newest_us start_us
@@ -34,16 +36,18 @@ is_ahead_by fill_us (Some newest_us) start_us = is_ahead_of fill_us newest_us st
 abbrev pub is_ahead_in : ℕ → State → ℕ → Bool
 is_ahead_in fill_us s start_us = is_ahead_by fill_us (newest_end s (length s.config.renditions)) start_us
 
--- how far after the newest end of all renditions a unit starts
+-- by how many microseconds a unit starts after the newest end, if there is one
 abbrev pub ahead_by : Option ℕ → ℕ → ℕ
 ahead_by None start_us = 0
 ahead_by (Some newest_us) start_us = start_us - newest_us
 
+-- by how many microseconds a unit starts after the newest end of all renditions in a state; 0 if it doesn't or there is no unit
 abbrev pub ahead_in : State → ℕ → ℕ
 ahead_in s start_us = ahead_by (newest_end s (length s.config.renditions)) start_us
 
 -- ---- the other renditions
 
+-- a rendition that exists and isn't finished
 abbrev pub is_unfinished : Option Bool → Bool
 is_unfinished (Some false) = true
 is_unfinished finished = false
@@ -60,6 +64,7 @@ presence_of s r e n = record {
   is_ahead = slice_index_or e.are_ahead n false;
 }
 
+-- the presences of the 16 possible encoders, as rendition r sees them
 abbrev pub other_presences : State → ℕ → EncoderReadings → List Presence
 other_presences s r e = map (presence_of s r e) (range_with_len 0 16)
 
@@ -73,7 +78,7 @@ is_accepted_by s r e = is_accepted_jump e.wait_us e.now_us (other_presences s r 
 abbrev pub OneClockIsRefused : Type 0
 OneClockIsRefused = (s : State) (r n : ℕ) (e : EncoderReadings) → n < 16 → Continues e.wait_us e.now_us (presence_of s r e n) → is_accepted_by s r e ≡ false
 
--- once every rendition allows it, it is
+-- if each of the 16 possible renditions allows the jump, a unit of rendition r that is ahead is accepted
 abbrev pub AllJumpIsAccepted : Type 0
 AllJumpIsAccepted =
     (s : State) (r : ℕ) (e : EncoderReadings) → ((n : ℕ) → n < 16 → allows_jump e.wait_us e.now_us (presence_of s r e n) ≡ true) → is_accepted_by s r e ≡ true

@@ -30,7 +30,7 @@ pub record AllowNamesMethods : Type 0 where
 
 -- ---- jobs
 
--- the file of the right reply of some state to some request
+-- the answer has this file of the right reply to some request in some state
 pub record IsOfRightReply (file : JobFile) (range : RangeSpec) (answer : ResponseData) : Type 0 where
   pub state : State
   pub request : Request
@@ -43,7 +43,7 @@ abbrev pub JobFilesAreRight : Type 0
 JobFilesAreRight = (id : ℕ) (file : JobFile) (range : RangeSpec) (answer : ResponseData) → RespondsWithJob id (file_answer file range) answer →
     (answer ≡ fault_answer http.NotFound) ⊎ ((answer ≡ fault_answer http.Conflict) ⊎ IsOfRightReply file range answer)
 
--- the line of the right answer of some state to some request, with that state's version
+-- the answer is the line of the right answer to some request in some state, with that state's version
 pub record IsOfRightAnswer (answer : ResponseData) : Type 0 where
   pub state : State
   pub request : Request
@@ -51,7 +51,7 @@ pub record IsOfRightAnswer (answer : ResponseData) : Type 0 where
   pub right : IsAnswered state request (Some result)
   pub answer_is : answer ≡ text_answer Done (result_line result (served_version state))
 
--- a job without an answer yet
+-- the answer is the line of a job that waits or runs
 abbrev pub IsOfUnfinished : ResponseData → Type 0
 IsOfUnfinished answer = (answer ≡ text_answer Done (codes "waiting\n")) ⊎ (answer ≡ text_answer Done (codes "running\n"))
 

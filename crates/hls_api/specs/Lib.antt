@@ -1,3 +1,4 @@
+-- What each request is answered with in a state of the channel, what a connection may do to it, and what is kept of jobs and queries.
 pub mod ResponseContents
 pub mod PlaylistCache
 pub mod Acts

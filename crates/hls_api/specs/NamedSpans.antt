@@ -8,12 +8,12 @@ use Rattle.hls_api.specs.declared.player_responses.NamedSpan.{NamedSpan}
 use Rattle.hls_api.specs.declared.player_responses.NamedSpan.TheVariants as spans
 use Rattle.hls_api.specs.declared.player_responses.Span.{Span}
 
--- the units from one byte of a recording to another
+-- what the bytes from number `first` to number `last` of a recording name
 abbrev pub units_between_bytes : ℕ → RecordingData → ℕ → ℕ → Named
 units_between_bytes target rec first last =
     named_between target rec.facts rec.floor (unit_after 0 rec.facts (first - length rec.head)) (unit_after 0 rec.facts (last + 1 - length rec.head))
 
--- the bytes of kept units
+-- the span has the bytes of the named units, which are kept, within the recording
 pub record AreUnitBytes (rec : RecordingData) (span : Span) (named : Named) : Type 0 where
   pub first : ℕ
   pub end : ℕ
@@ -23,6 +23,7 @@ pub record AreUnitBytes (rec : RecordingData) (span : Span) (named : Named) : Ty
   pub within : span.start + span.len ≤ total_of rec
   pub small : span.start + span.len < 2 ^ 64
 
+-- the search's result is what the path names: nothing, trimmed units, or the bytes of kept units
 abbrev pub IsNamedSpan : RecordingData → NamedSpan → Named → Type 0
 IsNamedSpan rec spans.Nothing named = named ≡ NoUnits
 IsNamedSpan rec spans.Trimmed named = named ≡ TrimmedUnits

@@ -22,7 +22,7 @@ abbrev pub ListedPathsAreAnswered : Type 0
 ListedPathsAreAnswered = (s : State) (r : ℕ) (list : Playlist) (k : ℕ) (x : MediaSegment) → IsState s → path_list_of s r ≡ Some list →
     slice_get list.segments k ≡ Some x → IsAnsweredPath s r x.uri
 
--- and so is the init section
+-- if a state has a playlist by paths for a rendition, that rendition's init section is answered with 200
 abbrev pub ListedInitsAreAnswered : Type 0
 ListedInitsAreAnswered = (s : State) (r : ℕ) (list : Playlist) → IsState s → path_list_of s r ≡ Some list →
     (init_answer s s.config.base.run r All).status ≡ Done

@@ -12,9 +12,10 @@ abbrev pub IsStartIn : Option State → CatchupQuery → Request → Type 0
 IsStartIn None query request = ⊥
 IsStartIn (Some s) query request = StartsProgramme s query (Planned request)
 
+-- the cached request is the one to which the cached query leads in the state
 abbrev pub IsQueryOf : Option State → CachedQuery → Type 0
 IsQueryOf source kept = IsStartIn source kept.query kept.request
 
--- each cached query is one of the state
+-- the version and all cached queries are those of the state
 abbrev pub AreQueriesOf : Option State → ℕ → List CachedQuery → Type 0
 AreQueriesOf source version queries = HasVersion source version × All (IsQueryOf source) queries

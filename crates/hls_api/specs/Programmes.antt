@@ -32,21 +32,21 @@ use Rattle.hls_api.specs.declared.route.ProgrammeFile.TheVariants as programmes
 
 -- ---- a programme that was planned
 
--- if it has no plan, the certificate is the only file
+-- the reply with a file of a programme; if the programme has no plan, the certificate is its only file
 abbrev pub programme_file_answer : ProgrammeFile → ReplyData → ResponseData
 programme_file_answer programmes.Master reply = list_answer (master_file reply)
 programme_file_answer (programmes.List r) reply = list_answer (programme_list_file reply r)
 programme_file_answer programmes.Certificate reply = text_answer Done (certificate_file reply)
 
--- caches keep it for a second
+-- .. which caches keep for a second
 abbrev pub programme_answer : ProgrammeFile → ReplyData → ResponseData
 programme_answer file reply = with_policy Brief (programme_file_answer file reply)
 
--- .. and clients try again after a second
+-- 503 Busy for a programme whose plan isn't ready: caches keep it for a second, and clients try again after a second
 abbrev pub busy_answer : ResponseData
 busy_answer = with_policy Brief (text_with (extra_line (extras.Retry 1)) Unavailable (refusal_body (codes "Busy")))
 
--- what a table of plans has of it: its texts, or none yet
+-- the reply for what a table of plans has of a programme: a file of its texts, or Busy while there are none
 abbrev pub ShowsFound : ProgrammeFile → FoundPlan → ResponseData → Type 0
 ShowsFound file (Ready texts) shown = (reply : ReplyData) → texts.value ≡ Some reply → shown ≡ programme_answer file reply
 ShowsFound file Unfinished shown = shown ≡ busy_answer
@@ -59,10 +59,11 @@ abbrev pub is_place_by : ℕ → Option Place → Bool
 is_place_by time None = false
 is_place_by time (Some first) = nat_le (time_of first) time
 
+-- whether the first place of a state, kept or not, is at or before the time
 abbrev pub has_begun_by : State → ℕ → Bool
 has_begun_by s time = is_place_by time (slice_get (places s) 0)
 
--- the beginning is gone if it was there; else the refusal has its name
+-- the reply for a programme that a state doesn't have: 410 if its beginning was recorded and is gone, else 404 with the refusal's name
 abbrev pub programme_refusal : State → Request → CatchFault → ResponseData
 programme_refusal s request BeforeRecording =
     cond (has_begun_by s request.start_us) (fault_answer http.Gone) (text_answer NotFound (refusal_body (catch_fault_name BeforeRecording)))
@@ -70,25 +71,26 @@ programme_refusal s request fault = text_answer NotFound (refusal_body (catch_fa
 
 -- ---- the reply
 
--- the state has the programme
+-- the state has the programme of the request
 abbrev pub HasProgramme : State → Request → Type 0
 HasProgramme s request = (t : Table) × IsTableFor s request (Ok t)
 
--- the state has the programme of the request, or the reply refuses it
+-- what a request leads to in a state: it is planned if the state has its programme, else it is refused
 abbrev pub StartsRequest : State → Request → ProgrammeStart → Type 0
 StartsRequest s request (Planned asked) = (asked ≡ request) × HasProgramme s request
 StartsRequest s request (Refused shown) =
     (fault : CatchFault) × IsAnswered s request (Some (Err fault)) × (shown ≡ with_policy Brief (programme_refusal s request fault))
 
--- a programme whose times the channel doesn't have is refused as a catch-up request is
+-- what parameters lead to in a state: times that the channel doesn't have are refused as in a catch-up request
 abbrev pub StartsParams : State → Result CatchupParams QueryFault → ProgrammeStart → Type 0
 StartsParams s (Ok params) start = StartsRequest s (request_for s params) start
 StartsParams s (Err fault) start = start ≡ Refused (with_policy Brief (query_answer fault))
 
+-- what a query for a programme leads to in a state: the request to plan, or a refusal, with times by the state's epoch
 abbrev pub StartsProgramme : State → CatchupQuery → ProgrammeStart → Type 0
 StartsProgramme s query begun = StartsParams s (catchup_params_of s.config.epoch query) begun
 
--- a query that is invalid in any channel
+-- the reply to a query that is invalid in any channel
 abbrev pub invalid_answer : ResponseData
 invalid_answer = with_policy Brief (query_answer BadQuery)
 
@@ -98,9 +100,11 @@ ShowsPlan request file shown =
     ((found : FoundPlan) × HasAddedPlan request found × ShowsFound file found shown)
     ⊎ (HasAddedPlan request Unfinished × ((found : FoundPlan) × HasFoundPlan request found × ShowsFound file found shown))
 
+-- the reply for what a query led to: a file of the planned programme, or the refusal
 abbrev pub ShowsStart : ProgrammeFile → ProgrammeStart → ResponseData → Type 0
 ShowsStart file (Planned request) shown = ShowsPlan request file shown
 ShowsStart file (Refused refusal) shown = shown ≡ refusal
 
+-- the reply for a file of the programme that the query asks for, in a state
 abbrev pub ShowsProgramme : State → CatchupQuery → ProgrammeFile → ResponseData → Type 0
 ShowsProgramme s query file shown = (begun : ProgrammeStart) × StartsProgramme s query begun × ShowsStart file begun shown

@@ -41,12 +41,13 @@ programme_query_of start stop pairs =
 abbrev pub programme_query_in : TimePoint → TimePoint → List ℕ → Option CatchupQuery
 programme_query_in start stop text = programme_query_of start stop (parse text)
 
+-- the query of a catch-up request in a text
 abbrev pub query_in : List ℕ → Option CatchupQuery
 query_in text = query_of (parse text)
 
 -- ---- what it asks of a channel
 
--- a moment before time 0 has no time
+-- the time of a moment relative to the epoch; a moment before time 0 has none
 abbrev pub from_epoch : ℤ → Result ℕ QueryFault
 from_epoch (pos us) = Ok us
 from_epoch (negsuc n) = Err BeforeEpoch
@@ -57,15 +58,17 @@ time_of epoch (Time us) = Ok us
 time_of None (Instant us) = Err BadQuery
 time_of (Some epoch) (Instant us) = from_epoch (us -ℤ epoch)
 
+-- the parameters with these times; the start's fault precedes the end's
 abbrev pub params_with : Result ℕ QueryFault → Result ℕ QueryFault → Option ℕ → Option ℕ → Result CatchupParams QueryFault
 params_with (Err fault) stop preferred charge = Err fault
 params_with (Ok start) (Err fault) preferred charge = Err fault
 params_with (Ok start) (Ok stop) preferred charge = Ok (record { start_us = start; stop_us = stop; preferred = preferred; charge = charge })
 
--- by a channel's epoch, if it has one
+-- the parameters of a query in a channel, by its epoch if it has one
 abbrev pub catchup_params_of : Option ℤ → CatchupQuery → Result CatchupParams QueryFault
 catchup_params_of epoch query = params_with (time_of epoch query.start) (time_of epoch query.stop) query.preferred query.charge
 
+-- the name by which a reply reports the fault of a query
 abbrev pub query_fault_name : QueryFault → List ℕ
 query_fault_name BadQuery = codes "BadQuery"
 query_fault_name BeforeEpoch = codes "BeforeEpoch"

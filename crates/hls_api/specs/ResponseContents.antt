@@ -23,15 +23,16 @@ pub record IsPositionFor (slices : List (List ℕ)) (at len : ℕ) (place : ℕ 
 
 -- ---- a rendition
 
--- its init section, and the kept ones of the units from number `first` to the one before `end`
+-- a rendition's init section, and the kept ones of the units from number `first` to the one before `end`
 abbrev pub slices_between : Option RecordingData → ℕ → ℕ → List (List ℕ)
 slices_between None first end = []
 slices_between (Some rec) first end = rec.head ∷ units_between rec.floor rec.units (max first rec.floor) end
 
+-- the slices of a media resource: the rendition's init section and the kept ones of the resource's units, as its snapshot has them
 abbrev pub media_slices : MediaResource → List (List ℕ)
 media_slices m = slices_between (recording_of m.snapshot.value m.rendition) m.first m.end
 
--- a recording: all kept units
+-- the slices of a whole recording: its init section and all kept units
 abbrev pub kept_slices : RecordingData → List (List ℕ)
 kept_slices rec = slices_between (Some rec) 0 (length rec.facts)
 
@@ -47,32 +48,35 @@ kept_range_bytes s r from len = option_and_then (λ rec. media_bytes rec from le
 abbrev pub based_range_bytes : State → ℕ → ℕ → ℕ → Option (List ℕ)
 based_range_bytes s r from len = option_and_then (λ rec. based_media_bytes (bytes_before_base s.config.base r) rec from len) (recording_of s r)
 
--- the offset of a byte that doesn't precede the recording, in the recording
+-- where a byte of the resource is in the recording, if it isn't one of the `before` bytes that precede its units
 abbrev pub own_offset : ℕ → RecordingData → ℕ → ℕ
 own_offset before rec at = min at (length rec.head) + (at - (length rec.head + before))
 
 -- ---- a response
 
--- this piece of a resource of `total` bytes is the requested part, whatever function returns its bytes
+-- this piece of a resource of `total` bytes is the requested part, for any function that returns the resource's bytes
 pub record IsMediaRange (asked : RangeSpec) (total : ℕ) (piece : MediaRange) : Type 0 where
   pub within : piece.from + piece.len ≤ total
   pub shown : (bytes : ℕ → ℕ → Option (List ℕ))
       → media_part_answer piece.status piece.extra (bytes piece.from piece.len) ≡ part_answer bytes total (range_selection asked total)
 
+-- the piece is the requested part of a resource of `total` bytes; none if the request is for no byte of it
 abbrev pub IsMediaRangeFor : RangeSpec → ℕ → Option MediaRange → Type 0
 IsMediaRangeFor asked total None = range_selection asked total ≡ Outside
 IsMediaRangeFor asked total (Some piece) = IsMediaRange asked total piece
 
+-- the slices of a response's body: one for a text, and those of the resource for media
 abbrev pub slices_of : ResponseBody → List (List ℕ)
 slices_of (bodies.Text text) = text.items ∷ []
 slices_of (bodies.Shared text) = text ∷ []
 slices_of (bodies.Media resource) = media_slices resource
 
--- the bytes, or the whole text
+-- the content of a response's body: its media, or the whole text of one that is partly written
 abbrev pub content_of : ResponseContent → List ℕ
 content_of (contents.Whole media) = media
 content_of (contents.List text) = text
 content_of (contents.Certificate text) = text
 
+-- the reply that a response is: its status, fields and cache policy, and the content of its body
 abbrev pub model_of : Inside → ResponseData
 model_of a = record { status = a.status; kind = a.kind; field = extra_line a.extra; policy = a.policy; body = content_of a.body }

@@ -29,23 +29,26 @@ pub record ResponseData : Type 0 where
   pub policy : CachePolicy
   pub body : List ℕ
 
--- its text; a reply to HEAD lacks the body
+-- a reply as text: the head, with Connection: close if it is closing, and the body, which a reply to HEAD lacks
 abbrev pub answer_text : ResponseData → Bool → Bool → List ℕ
 answer_text a closing to_head =
     (status_line a.status ++ (content_lines a.status a.kind (length a.body) ++ (a.field ++ (policy_lines a.policy ++ (close_line closing ++ crlf))))) ++ cond to_head [] a.body
 
--- a text, and this field
+-- a text reply with this field in its head
 abbrev pub text_with : List ℕ → Status → List ℕ → ResponseData
 text_with field status body = record { status = status; kind = Text; field = field; policy = Unstated; body = body }
 
+-- a text reply without an optional field
 abbrev pub text_answer : Status → List ℕ → ResponseData
 text_answer status body = text_with [] status body
 
 -- ---- refusals
 
+-- the reply to a fault of the request: its status and its name, with this field in the head
 abbrev pub fault_with : List ℕ → HttpFault → ResponseData
 fault_with field fault = text_with field (fault_status fault) (refusal_body (fault_name fault))
 
+-- the reply to a fault of the request: its status and its name
 abbrev pub fault_answer : HttpFault → ResponseData
 fault_answer fault = fault_with [] fault
 
@@ -55,6 +58,7 @@ method_answer route = fault_with (codes "Allow: " ++ (methods_of route ++ crlf))
 
 -- ---- the end of a rendition
 
+-- the reply to the end of a rendition: finished, repeated, or refused with the refusal's name
 abbrev pub finish_answer : Result Moved Refusal → ResponseData
 finish_answer (Ok (moved.New version)) = text_answer Done (codes "finished\n")
 finish_answer (Ok moved.Repeat) = text_answer Done (codes "repeated\n")
@@ -62,6 +66,7 @@ finish_answer (Err refusal_) = text_answer (core_status refusal_) (refusal_body 
 
 -- ---- the status
 
+-- a line of the status: a name, a blank and the number in decimal
 abbrev pub status_row : List ℕ → ℕ → List ℕ
 status_row name number = name ++ (32 ∷ (decimal number ++ 10 ∷ []))
 
@@ -74,31 +79,33 @@ status_text s jobs =
     ++ (status_row (codes "removed") (s.config.base.segments + (line s).removed)
     ++ status_row (codes "jobs") jobs)))
 
+-- the reply for the status of a state and this number of jobs
 abbrev pub status_answer : State → ℕ → ResponseData
 status_answer s jobs = text_answer Done (status_text s jobs)
 
 -- ---- the metrics
 
--- with what the server measured, which is of no state
+-- the reply for the metrics: a state, the number of jobs, and what the server measured
 abbrev pub metrics_answer : State → ℕ → Measured → ResponseData
 metrics_answer s jobs measured = text_answer Done (metrics_text s jobs measured)
 
 -- ---- media
 
--- all bytes, if each of them is there
+-- all bytes of a range, if each of them is available
 unfoldable pub whole_range : List (Option ℕ) → Option (List ℕ)
 whole_range [] = Some []
 whole_range (b ∷ bytes) = option_and_then (λ first. option_map (λ others. first ∷ others) (whole_range bytes)) b
 
+-- the reply with a part of a resource; 410 if a byte of the part is trimmed
 abbrev pub media_part_answer : Status → ExtraField → Option (List ℕ) → ResponseData
 media_part_answer status extra None = fault_answer http.Gone
 media_part_answer status extra (Some bytes) = record { status = status; kind = Media; field = extra_line extra; policy = Unstated; body = bytes }
 
--- where the range has none of the resource's `total` bytes
+-- 416 for a range that has none of the resource's `total` bytes
 abbrev pub outside_answer : ℕ → ResponseData
 outside_answer total = fault_with (extra_line (NoRange total)) http.RangeOutside
 
--- by the selected part of a resource; the resource is a function of an offset and a length, which may be unavailable
+-- the reply with the selected part of a resource, which is a function of an offset and a length and may be unavailable
 abbrev pub part_answer : (ℕ → ℕ → Option (List ℕ)) → ℕ → RangeSelection → ResponseData
 part_answer bytes total parts.Outside = outside_answer total
 part_answer bytes total parts.Whole = media_part_answer Done Nothing (bytes 0 total)
@@ -113,20 +120,23 @@ media_bytes rec from len = whole_range (range_of rec from (from + len))
 abbrev pub based_bytes : ℕ → RecordingData → List (Option ℕ)
 based_bytes before rec = map Some rec.head ++ replicate before None ++ drop (length rec.head) (bytes_of rec)
 
+-- `len` bytes of such a resource from offset `from` on, if all of them are kept
 abbrev pub based_media_bytes : ℕ → RecordingData → ℕ → ℕ → Option (List ℕ)
 based_media_bytes before rec from len = whole_range (take len (drop from (based_bytes before rec)))
 
--- its init section and all its units; not found before its init section
+-- the reply with a rendition's resource, its init section and all its units, or with a range of it; 404 before the init section
 abbrev pub recording_answer : ℕ → Option RecordingData → RangeSpec → ResponseData
 recording_answer before None range = fault_answer http.NotFound
 recording_answer before (Some rec) range =
     part_answer (based_media_bytes before rec) (before + total_of rec) (range_selection range (before + total_of rec))
 
+-- the reply for the resource of rendition r in a state: everything that was recorded of it, or the requested range
 abbrev pub media_answer : State → ℕ → RangeSpec → ResponseData
 media_answer s r range = recording_answer (bytes_before_base s.config.base r) (recording_of s r) range
 
 -- ---- playlists
 
+-- the reply with a playlist's text
 abbrev pub playlist_answer : List ℕ → ResponseData
 playlist_answer text = record { status = Done; kind = Playlist; field = []; policy = Unstated; body = text }
 

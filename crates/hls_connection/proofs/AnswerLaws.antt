@@ -16,7 +16,7 @@ use Rattle.hls_http.specs.declared.end.BodyEnd.TheVariants as bodies
 use Rattle.hls_api.specs.declared.ingest.IngestStop.TheVariants as ingest_stops
 use Rattle.hls_connection.specs.declared.receive.BodyTarget.TheVariants as targets
 
--- what follows a head is read as its plan says
+-- if what follows the head is handled as its action says, the stream begins with this request, its acts and its reply
 exchange : {channel : ServedChannel} {stream first : List ℕ} {context : RequestContext} {action : BodyFraming → RequestAction} {last : BodyFraming} {unread : List ℕ} (at : HasBody channel stream first context action last unread) (acts : List Act) (due : DueResponse) (later : List ℕ)
     → HandlesBy (action at.body) (request_of channel at.head) (at.following ++ later) acts due (unread ++ later) → IsExchange channel (stream ++ later) acts due (unread ++ later)
 exchange {channel} {unread} at acts due later follows = record {
@@ -26,7 +26,7 @@ exchange {channel} {unread} at acts due later follows = record {
   follows = subst (λ (p : RequestAction). HandlesBy p (request_of channel at.head) (at.following ++ later) acts due (unread ++ later)) (sym at.plan_is) follows;
 }
 
--- a reply to a body that was discarded
+-- a step that sends the reply due for a discarded body answers its request
 pub replies_discarded : {channel : ServedChannel} {stream first : List ℕ} {context : RequestContext} {route : Route} {last : BodyFraming} {unread : List ℕ} {result : Result (Unit {0}) DiscardEnd}
     (x : IsDiscarded channel stream first context route last unread result) (acts : List Act) {step : Transition} {Is : DueResponse → Type 0}
     → ((due : DueResponse) → Is due → IsDiscardDue (request_of channel x.at.head) route acts due result)
@@ -38,7 +38,7 @@ replies_discarded {channel} {last} {unread} {result} x acts skipped =
     (record { content = x.at.content; last = last; runs = x.at.runs later; result = result; discards = x.discarded later; skipped = skipped due is })
     ))
 
--- .. to an encoder's
+-- a step that sends the reply due for an encoder's body answers its request
 pub replies_ingested : {channel : ServedChannel} {stream first : List ℕ} {r : ReceivingBody} {encoder : IngestTarget} {unread : List ℕ} {result : Result (Unit {0}) IngestStop} (x : IsIngested channel stream first r encoder unread result)
     {step : Transition} {Is : DueResponse → Type 0} → ((due : DueResponse) → Is due → IsIngestDue encoder x.at.head (request_of channel x.at.head).action (not (is_over r.body)) (progress_of r.taken) due result)
     → RespondsWith Is (continue_prefix x.at.head (request_of channel x.at.head).action) r.taken.acts step → RespondsTo channel stream first r.taken.acts unread step
@@ -58,18 +58,19 @@ replies_ingested {channel} {r} {unread} {result} x ingested =
     })
     ))
 
--- only an encoder's body is refused for its content, or ended by an allocation failure
+-- a body that was refused for its content is an encoder's
 pub refused_ingest : {channel : ServedChannel} {stream first : List ℕ} {r : ReceivingBody} {unread : List ℕ} (target : BodyTarget) (fault : StreamFault) → IsReceived channel stream first r target unread (Err (ingest_stops.Refused fault))
     → (encoder : IngestTarget) × (is_mended_into target ≡ is_some encoder.mending) × IsIngested channel stream first r encoder unread (Err (ingest_stops.Refused fault))
 refused_ingest (targets.Nothing room) fault x = absurd x
 refused_ingest (targets.Encoder encoder reader) fault x = (encoder, refl, x)
 
+-- a body whose receiving ended with an allocation failure is an encoder's
 pub memory_ingest : {channel : ServedChannel} {stream first : List ℕ} {r : ReceivingBody} {unread : List ℕ} (target : BodyTarget) → IsReceived channel stream first r target unread (Err ingest_stops.Memory)
     → (encoder : IngestTarget) × IsIngested channel stream first r encoder unread (Err ingest_stops.Memory)
 memory_ingest (targets.Nothing room) x = absurd x
 memory_ingest (targets.Encoder encoder reader) x = (encoder, x)
 
--- a reply to a body whose framing is bad
+-- a step that sends 400 BadFraming for a body with bad framing answers its request
 pub replies_broken : {channel : ServedChannel} {first : List ℕ} {step : Transition} (stream : List ℕ) (r : ReceivingBody) (unread : List ℕ) (target : BodyTarget) (end : BodyEnd) → IsReceived channel stream first r target unread (Err (ingest_stops.Stopped end))
     → ((h : RequestHead) (action : RequestAction) → IsContextOf channel h r.context → RespondsWith (IsDue h action (fault_answer BadFraming) true) (continue_prefix h action) r.taken.acts step) → RespondsTo channel stream first r.taken.acts unread step
 replies_broken {channel} stream r unread (targets.Nothing room) bodies.BadFraming (nothing, x) refused =

@@ -28,13 +28,15 @@ use Rattle.hls_connection.specs.declared.receive.BodyTarget.TheVariants as targe
 
 -- ---- lists
 
--- what holds whatever follows holds where nothing does
+-- a relation of two texts that holds whatever follows both holds of the texts alone
 pub plainly : (P : List ℕ → List ℕ → Type 0) (a b : List ℕ) → ((later : List ℕ) → P (a ++ later) (b ++ later)) → P a b
 plainly P a b all = rw (append-nil a, append-nil b) at (all [])
 
+-- one more element adds its list at the end of the joined lists
 pub flat_push : {X A : Type 0} (f : X → List A) (xs : List X) (x : X) → flat_map f (xs ++ x ∷ []) ≡ flat_map f xs ++ f x
 flat_push f xs x = flat_map-append f xs (x ∷ []) ∙ ap (λ t. flat_map f xs ++ t) (append-nil (f x))
 
+-- requests that were served, and one more after them, are requests that were served
 serves_push : (over : List Exchange) (channel : ServedChannel) (x : Exchange) (stream middle rest : List ℕ) → Serves channel stream over middle → IsExchange channel middle x.acts (due_in x) rest
     → Serves channel stream (over ++ x ∷ []) rest
 serves_push [] channel x stream middle rest serves exchange = (rest, subst (λ (t : List ℕ). IsExchange channel t x.acts (due_in x) rest) serves exchange, refl)
@@ -42,13 +44,14 @@ serves_push (y ∷ ys) channel x stream middle rest (next, first, serves) exchan
 
 -- ---- one step more
 
--- a refusal with success or not ends the connection so
+-- a reply that closes the connection ends it as Closed or Refused, by its success
 stands_over : (success ended : Bool) {channel : ServedChannel} {rest : List ℕ} {acts : List Act} {text unread : List ℕ} → EndsByReply channel success rest acts text unread
     → IsInState (state_after true success) channel ended rest acts text unread
 stands_over true ended x = inr x
 stands_over false ended x = x
 
--- where nothing was asked yet for what is looked at, and nothing waits: this is asked, handed out, and unread then
+-- a consistent connection without acts for the present request and with nothing pending, after these acts, with this text pending and these bytes
+-- unread
 module _ {channel : ServedChannel} {old : ConnectionState} {h : History} (x : IsConsistent channel old h) (nothing : x.acts ≡ []) (empty : h.pending ≡ []) (acts : List Act) (text unread : List ℕ) where
   abbrev after : History
   after = record h { unread = unread; acts = h.acts ++ acts; pending = text }
@@ -61,7 +64,7 @@ module _ {channel : ServedChannel} {old : ConnectionState} {h : History} (x : Is
       let sent : h.sent ≡ text_of x.over ++ x.text = sym (append-nil h.sent) ∙ ap (λ (t : List ℕ). h.sent ++ t) (sym empty) ∙ x.written in
       ap (λ (t : List ℕ). t ++ text) sent ∙ append_assoc (text_of x.over) x.text text ∙ ap (λ (t : List ℕ). text_of x.over ++ t) (sym is)
 
-  -- no request is over
+  -- the present request continues in the new state
   pub goes_to : {new : ConnectionState} (due : List ℕ) → due ≡ x.text ++ text → IsInState new channel h.ended x.rest acts due unread → IsConsistent channel new after
   goes_to due is stage_is = record {
     over = x.over;
@@ -74,7 +77,7 @@ module _ {channel : ServedChannel} {old : ConnectionState} {h : History} (x : Is
     stage_is = stage_is;
   }
 
-  -- one is, and the connection continues
+  -- the present request is answered, and the connection stays open
   goes_on : (due : List ℕ) (success : Bool) → due ≡ x.text ++ text
       → ((later : List ℕ) → IsExchange channel (x.rest ++ later) acts (record { text = due; closing = false; success = success }) (unread ++ later)) → IsConsistent channel states.Head after
   goes_on due success is exchange =
@@ -90,13 +93,13 @@ module _ {channel : ServedChannel} {old : ConnectionState} {h : History} (x : Is
         stage_is = (refl, refl, refl);
       }
 
-  -- the connection is over
+  -- the connection ends by a reply
   ends_by : (due : DueResponse) → due.closing ≡ true → due.text ≡ x.text ++ text → IsExchange channel x.rest acts due unread ⊎ (RefusesHead x.rest due × (acts ≡ []) × (unread ≡ x.rest))
       → IsConsistent channel (state_after true due.success) after
   ends_by due closing is exchange =
       goes_to due.text is (stands_over due.success h.ended (record { due = due; closing = closing; success_is = refl; text_is = refl; exchange = exchange }))
 
--- one is responded to
+-- a step that answers the present request leads to a consistent connection
 pub replied : {channel : ServedChannel} {old : ConnectionState} {h : History} (x : IsConsistent channel old h) → x.acts ≡ [] → h.pending ≡ [] → {acts : List Act} {unread : List ℕ} {step : Transition} → RespondsTo channel x.rest x.text acts unread step
     → IsConsistent channel step.state (record h { unread = unread; acts = h.acts ++ step.acts; pending = step.output })
 replied {channel} {h} x nothing empty {acts} {unread} {step} r =
@@ -110,12 +113,12 @@ replied {channel} {h} x nothing empty {acts} {unread} {step} r =
         let all : DueResponse = record { text = due; closing = true; success = success } in
         ends_by x nothing empty acts step.output unread all refl is (inl (plainly (λ a b. IsExchange channel a acts all b) x.rest unread exchange))
 
--- nothing is handed out
+-- a connection that sends nothing is consistent in any state that describes the present request, with these acts
 pub stays : {channel : ServedChannel} {old new : ConnectionState} {h : History} (acts : List Act) (unread : List ℕ) (x : IsConsistent channel old h) → x.acts ≡ [] → h.pending ≡ []
     → IsInState new channel h.ended x.rest acts x.text unread → IsConsistent channel new (record h { unread = unread; acts = h.acts ++ acts; pending = [] })
 stays acts unread x nothing empty stage_is = goes_to x nothing empty acts [] unread x.text (sym (append-nil x.text)) stage_is
 
--- a request whose body was discarded is handled
+-- a step that handles a request whose body was discarded leads to a consistent connection
 pub handled : {channel : ServedChannel} {old : ConnectionState} {h : History} (x : IsConsistent channel old h) → x.acts ≡ [] → h.pending ≡ [] → {unread : List ℕ} {step : Transition} → IsHandled channel x.rest x.text unread step
     → IsConsistent channel step.state (record h { unread = unread; acts = h.acts ++ step.acts; pending = step.output })
 handled x nothing empty (inl (acts, responds)) = replied x nothing empty responds
@@ -124,12 +127,12 @@ handled {channel} {old} {h} x nothing empty {unread} {step} (inr (inl (w, is, wr
 handled {channel} {old} {h} x nothing empty {unread} {step} (inr (inr (w, is, waiting))) =
     subst (λ (s : Transition). IsConsistent channel s.state (record h { unread = unread; acts = h.acts ++ s.acts; pending = s.output })) (sym is) (stays [] unread x nothing empty (waiting, refl))
 
--- the reply to what can't become a head closes the connection
+-- the reply where no head was read closes the connection
 closes : (fault : HttpFault) (due : DueResponse) → IsDueWithoutHead fault due → due.closing ≡ true
 closes fault due (inl is) = ap (λ (d : DueResponse). d.closing) is
 closes fault due (inr is) = ap (λ (d : DueResponse). d.closing) is
 
--- .. after which no step is left
+-- after such a reply no step is left
 pub refused_last : {step : Transition} (fault : HttpFault) → RespondsWith (IsDueWithoutHead fault) [] [] step → steps_of step.state ≡ 0
 refused_last fault r =
     ap (λ (s : Transition). steps_of s.state) r.step_is ∙ ap (λ (c : Bool). steps_of (state_after c r.due.success)) (closes fault r.due r.is) ∙ over r.due.success
@@ -138,7 +141,7 @@ refused_last fault r =
     over true = refl
     over false = refl
 
--- what can't become a head is refused
+-- a step that refuses bytes as no head, or a head as too large, leads to a consistent connection
 pub head_refused : {channel : ServedChannel} {h : History} {step : Transition} (fault : HttpFault) (x : IsConsistent channel states.Head h) → h.pending ≡ []
     → ((due : DueResponse) → IsDueWithoutHead fault due → RefusesHead h.unread due) → RespondsWith (IsDueWithoutHead fault) [] [] step
     → IsConsistent channel step.state (record h { acts = h.acts ++ step.acts; pending = step.output })
@@ -149,7 +152,7 @@ head_refused {channel} {h} {step} fault x empty refuses r =
     subst (λ (s : Transition). IsConsistent channel s.state (record h { acts = h.acts ++ s.acts; pending = s.output })) (sym r.step_is)
     (rw closing (ends_by x x.stage_is.1 empty [] step.output h.unread r.due closing is (inr (refused, refl, x.stage_is.0))))
 
--- no head is at the front yet
+-- while no whole head has arrived, the connection awaits one, or at the input's end it is closed or cut short
 pub head_waits : (empty ended : Bool) (channel : ServedChannel) (stream text unread : List ℕ) → (length unread == 0) ≡ empty → IsUnfinished unread
     → IsBetween stream [] text unread → IsInState (awaited_state empty ended) channel ended stream [] text unread
 head_waits empty false channel stream text unread is unfinished s = s
@@ -157,14 +160,15 @@ head_waits true true channel stream text unread is unfinished s = inl (refl, sym
 head_waits false true channel stream text unread is unfinished s =
     (refl, inl (subst IsUnfinished s.0 unfinished, subst (λ (t : List ℕ). 0 < length t) s.0 (omega (arith, eqb-false (length unread) 0 is)), s))
 
--- a step after which more is to be done, or nothing
+-- a step that reports more to do makes progress if it lowers the number of steps left
 pub turns_on : {ended : Bool} {old new : ConnectionState} {before after : List ℕ} {more : Bool} → more ≡ true → steps_in new after < steps_in old before → ReportsProgress ended old before new after more
 turns_on is lowers = record { idle_or_blocked = λ over. absurd (cc (is, over)); lowers = λ on. lowers }
 
+-- a step that reports nothing more to do makes progress if the connection is idle after it
 pub turns_off : {ended : Bool} {old new : ConnectionState} {before after : List ℕ} {more : Bool} → more ≡ false → IsIdleOrWaiting ended new after → ReportsProgress ended old before new after more
 turns_off is idle_or_blocked = record { idle_or_blocked = λ over. idle_or_blocked; lowers = λ on. absurd (cc (is, on)) }
 
--- .. so nothing can be done with what is unread, and there is room for more; or all is over
+-- while no whole head has arrived, the connection is idle
 pub waits : (empty ended : Bool) (unread : List ℕ) → IsUnfinished unread → IsIdleOrWaiting ended (awaited_state empty ended) unread
 waits empty false unread unfinished = inr (refl, unfinished.short, inr unfinished)
 waits true true unread unfinished = inl tt
@@ -172,19 +176,21 @@ waits false true unread unfinished = inl tt
 
 -- ---- after a head
 
--- fewer bytes are unread
+-- fewer bytes are unread after a head was read
 pub head_takes : (text : List ℕ) (head : RequestHead) (rest : List ℕ) → ReadsLimitedHead text head rest → length rest < length text
 head_takes text head rest x = omega (arith, head_is_some head, ap length x.reads.1, length-append (print_request head) rest)
 
--- what is refused before its body has no 100 Continue
+-- a request that is refused before its body gets no 100 Continue
 no_first : (h : RequestHead) (fault : HttpFault) (closing : Bool) → continue_prefix h (Refuse fault closing) ≡ []
 no_first h fault closing = cond-false (sends_continue h (Refuse fault closing)) _ [] (and-false (expects h.minor (fields_of h)))
 
 module _ {channel : ServedChannel} {h : History} {context : RequestContext} {head : RequestHead} {rest : List ℕ} (x : IsConsistent channel states.Head h) (empty : h.pending ≡ [])
     (reads : ReadsLimitedHead h.unread head rest) (is_context : IsContextOf channel head context) where
+  -- the head is at the front of the stream after the answered requests, whatever follows
   pub read : (later : List ℕ) → ReadsLimitedHead (x.rest ++ later) head (rest ++ later)
   read later = heads_stay x.rest head rest later (subst (λ (t : List ℕ). ReadsLimitedHead t head rest) x.stage_is.0 reads)
 
+  -- the request has a body, and nothing of it was read yet
   abbrev pub has_body : (action : BodyFraming → RequestAction) (body : BodyFraming) (text : List ℕ) → (request_of channel head).action ≡ action body → text ≡ continue_prefix head (request_of channel head).action
       → HasBody channel x.rest text context action body rest
   has_body action body text is first_is = record {
@@ -199,9 +205,11 @@ module _ {channel : ServedChannel} {h : History} {context : RequestContext} {hea
     runs = λ later. NoStep;
   }
 
+  -- the connection is consistent in a state that begins with this head
   pub begins : {new : ConnectionState} (text : List ℕ) → IsInState new channel h.ended x.rest [] text rest → IsConsistent channel new (record h { unread = rest; acts = h.acts ++ []; pending = text })
   begins text stage_is = goes_to x x.stage_is.1 empty [] text rest text (ap (λ (t : List ℕ). t ++ text) (sym x.stage_is.2)) stage_is
 
+  -- a step that refuses the request before its body leads to a consistent connection
   pub refuses : (fault : HttpFault) (closing : Bool) {step : Transition} → (request_of channel head).action ≡ Refuse fault closing
       → RespondsWith (IsDue head (Refuse fault closing) (fault_answer fault) closing) (continue_prefix head (Refuse fault closing)) [] step
       → IsConsistent channel step.state (record h { unread = rest; acts = h.acts ++ step.acts; pending = step.output })
@@ -210,11 +218,12 @@ module _ {channel : ServedChannel} {h : History} {context : RequestContext} {hea
       = λ due is later. record { head = head; following = rest ++ later; reads = read later; follows = rw action (refl, refl, is) } in
       replied x x.stage_is.1 empty (replies_by (x.stage_is.2 ∙ sym (no_first head fault closing)) hears r)
 
--- nothing was asked for it yet, and any keeper suits it
+-- any keeper that saw a valid state suits a body with no progress
 begun_suits : (known : Knowledge) (target : BodyTarget) (taken : IngestState) → progress_of taken ≡ no_progress → IsState known.seen → SuitsTarget known target taken
 begun_suits known (targets.Nothing room) taken is valid = tt
 begun_suits known (targets.Encoder encoder reader) taken is valid = record { valid = valid; has = λ init there. absurd (cc (ap (λ (y : Progress). y.init) is, there)) }
 
+-- a step that begins a body adds no acts, and any keeper that saw a valid state suits it
 pub begun_asks : {context : RequestContext} {route : Route} {body : BodyFraming} {target : BodyTarget} (step : Transition) → BeginsBody context route body target step → IsForTarget target route context → HasNoActs states.Head step
 begun_asks {context} {route} {body} {target} step (taken, is, made) suits = record {
   same = ap acts_of_step made ∙ ap (λ (y : Progress). y.acts) is;
@@ -224,6 +233,7 @@ begun_asks {context} {route} {body} {target} step (taken, is, made) suits = reco
 
 -- ---- a body
 
+-- a request with some of its body is within a request, with the acts for the body
 abbrev within : {channel : ServedChannel} {stream first : List ℕ} {context : RequestContext} {action : BodyFraming → RequestAction} {last : BodyFraming} {unread : List ℕ} (acts : List Act) (at : HasBody channel stream first context action last unread)
     → AreBodyActs channel at.head at.body at.content last acts → IsWithin channel stream acts first unread
 within {stream} {last} {unread} acts at asked = record {
@@ -238,7 +248,7 @@ within {stream} {last} {unread} acts at asked = record {
   text_is = at.first_is;
 }
 
--- what was asked for a body that is received
+-- the acts of a body that is received are those for its content so far
 pub body_acts : {channel : ServedChannel} {stream first : List ℕ} {r : ReceivingBody} {unread : List ℕ} (x : IsReceiving channel stream first r unread) → AreBodyActs channel x.at.head x.at.body x.at.content r.body r.taken.acts
 body_acts {channel} {stream} {first} {r} {unread} x = by r.target x.at x.received
   where
@@ -248,9 +258,11 @@ body_acts {channel} {stream} {first} {r} {unread} x = by r.target x.at x.receive
     by (targets.Encoder encoder reader) at (is, reached) =
         inr (at.plan_is, (encoder, sym at.is_context.route ∙ x.route ∙ ap Some is, (progress_of r.taken, reached.taken, refl)))
 
+-- a request whose body is received is within a request, with the acts for its content so far
 abbrev pub within_body : {channel : ServedChannel} {stream first : List ℕ} {r : ReceivingBody} {unread : List ℕ} → IsReceiving channel stream first r unread → IsWithin channel stream r.taken.acts first unread
 within_body {r} x = within r.taken.acts x.at (body_acts x)
 
+-- a request whose response is made in parts is within a request, with the acts for its answer
 abbrev pub within_writing : {channel : ServedChannel} {stream first : List ℕ} {w : WritingResponse} {unread : List ℕ} → IsWriting channel stream first w unread → IsWithin channel stream w.acts first unread
 within_writing {w} x =
     let at = x.discarded.at in
@@ -265,6 +277,7 @@ within_writing {w} x =
       }),
     ))
 
+-- a request whose response waits is within a request, with the acts for the wait
 pub within_waiting : {channel : ServedChannel} {stream first : List ℕ} {w : WaitingResponse} {unread : List ℕ} → IsWaiting channel stream first w unread → IsWithin channel stream w.acts first unread
 within_waiting {channel} {w} x =
     let at = x.discarded.at in within w.acts at (inl (at.plan_is, by w.awaited (x.discarded.discarded []).0 (sym at.is_context.route ∙ x.discarded.route_is) x.asked))
@@ -282,13 +295,14 @@ within_waiting {channel} {w} x =
               (plan_unfinished (programme_query_in plan.start plan.stop (query_of x.discarded.at.head.target)) plan.file [] w.acts plan.request busy_answer asked refl);
         })
 
--- the input's end cuts it short
+-- if the input ends within a body, the connection ends as cut short
 pub cuts : {channel : ServedChannel} {old new : ReceivingBody} {h : History} (unread : List ℕ) (x : IsConsistent channel (states.Receive old) h) → h.pending ≡ [] → IsTrue h.ended → IsReceiving channel x.rest x.text new unread × IsOpen new.body unread
     → IsConsistent channel (states.Ended ends.CutShort) (record h { unread = unread; acts = h.acts ++ new.taken.acts; pending = [] })
 cuts {channel} {old} {new} unread x empty ended w = stays new.taken.acts unread x x.stage_is.1 empty (ended, inr (record { within = within_body w.0; unfinished = w.1 }))
 
 -- ---- what holds, in the terms of connections
 
+-- what the state says of the stream holds at the stage of the connection, with the acts for the present request added
 stands_as : (state : ConnectionState) (channel : ServedChannel) (ended : Bool) (stream : List ℕ) (acts : List Act) (text unread : List ℕ) → IsInState state channel ended stream acts text unread
     → IsAtStage (stage_of state) channel ended stream (acts ++ current_acts state) text unread
 stands_as states.Head channel ended stream acts text unread s = (s.0, append-nil acts ∙ s.1, s.2)
@@ -298,6 +312,7 @@ stands_as (states.Write w) channel ended stream acts text unread s = rw s.1 (wit
 stands_as (states.Ended end) channel ended stream acts text unread s =
     subst (λ (t : List Act). IsAtStage (stage_of (states.Ended end)) channel ended stream t text unread) (sym (append-nil acts)) s
 
+-- a consistent connection has answered its requests in order, and its stage describes the rest
 pub served_of : {channel : ServedChannel} {state : ConnectionState} {h : History} → IsConsistent channel state h → IsServed channel (stage_of state) (record h { acts = h.acts ++ current_acts state })
 served_of {channel} {state} {h} x = record {
   over = x.over;
@@ -310,12 +325,13 @@ served_of {channel} {state} {h} x = record {
   stage_is = stands_as state channel h.ended x.rest x.acts x.text h.unread x.stage_is;
 }
 
--- .. where nothing can be done with what is unread
+-- the stage describes the present request, and nothing can be done with the unread bytes
 abbrev Before : ConnectionState → ServedChannel → Bool → List ℕ → List ℕ → List ℕ → List Act → Type 0
 Before state channel ended stream text unread acts =
     (s : IsAtStage (stage_of state) channel ended stream (acts ++ current_acts state) text unread)
     × EndsBeforeStep (stage_of state) channel ended stream (acts ++ current_acts state) text unread s
 
+-- if the state's unread bytes allow no step, the stage describes a place where nothing can be done
 stands_before : (state : ConnectionState) (channel : ServedChannel) (ended : Bool) (stream : List ℕ) (acts : List Act) (text unread : List ℕ) → IsInState state channel ended stream acts text unread → LacksMore state unread
     → Before state channel ended stream text unread acts
 stands_before states.Head channel ended stream acts text unread s lacks = ((s.0, append-nil acts ∙ s.1, s.2), lacks)
@@ -325,6 +341,7 @@ stands_before (states.Wait w) channel ended stream acts text unread s lacks = ab
 stands_before (states.Write w) channel ended stream acts text unread s lacks = absurd lacks
 stands_before (states.Ended end) channel ended stream acts text unread s lacks = absurd lacks
 
+-- a consistent connection whose unread bytes allow no step needs more of its stream
 pub needs_of : {channel : ServedChannel} {state : ConnectionState} {h : History} → IsConsistent channel state h → LacksMore state h.unread → NeedsMore channel (stage_of state) (record h { acts = h.acts ++ current_acts state })
 needs_of {channel} {state} {h} x lacks =
     let s = stands_before state channel h.ended x.rest x.acts x.text h.unread x.stage_is lacks in
@@ -342,8 +359,9 @@ needs_of {channel} {state} {h} x lacks =
       before = s.1;
     }
 
--- ---- more is received, and handed out
+-- ---- more is received and sent
 
+-- a request with some of its body stays one when more bytes arrive
 abbrev body_more : {channel : ServedChannel} {stream first : List ℕ} {context : RequestContext} {action : BodyFraming → RequestAction} {last : BodyFraming} {unread : List ℕ} (more : List ℕ) → HasBody channel stream first context action last unread
     → HasBody channel (stream ++ more) first context action last (unread ++ more)
 body_more {stream} {unread} more at = record {
@@ -358,6 +376,7 @@ body_more {stream} {unread} more at = record {
   first_is = at.first_is;
 }
 
+-- what a state says of the stream holds when more bytes arrive, unless the connection is at its end
 stands_more : (state : ConnectionState) (channel : ServedChannel) (ended now : Bool) (stream : List ℕ) (acts : List Act) (text unread more : List ℕ) → IsNotOverIn state
     → IsInState state channel ended stream acts text unread → IsInState state channel now (stream ++ more) acts text (unread ++ more)
 stands_more states.Head channel ended now stream acts text unread more going s = (ap (λ (t : List ℕ). t ++ more) s.0, s.1, s.2)
@@ -378,7 +397,7 @@ stands_more (states.Write w) channel ended now stream acts text unread more goin
     (record { last = s.0.last; discarded = record { at = body_more more d.at; route_is = d.route_is; discarded = λ later. d.discarded later }; answers = s.0.answers }, s.1)
 stands_more (states.Ended end) channel ended now stream acts text unread more going s = absurd going
 
--- bytes are received, and perhaps the end of the input
+-- a consistent connection that isn't at its end stays consistent when more bytes, or the input's end, are read
 pub holds_more : {channel : ServedChannel} {state : ConnectionState} {h : History} (more : List ℕ) (ended : Bool) → IsNotOverIn state → IsConsistent channel state h
     → IsConsistent channel state (record h { received = h.received ++ more; ended = ended; unread = h.unread ++ more })
 holds_more {channel} {state} {h} more ended going x = record {
@@ -392,7 +411,7 @@ holds_more {channel} {state} {h} more ended going x = record {
   stage_is = stands_more state channel h.ended ended x.rest x.acts x.text h.unread more going x.stage_is;
 }
 
--- some of the waiting bytes were sent
+-- a consistent connection stays consistent when some of the pending bytes are sent
 pub holds_sent : {channel : ServedChannel} {state : ConnectionState} {h : History} (handed_out waits : List ℕ) → h.pending ≡ handed_out ++ waits → IsConsistent channel state h
     → IsConsistent channel state (record h { sent = h.sent ++ handed_out; pending = waits })
 holds_sent {channel} {state} {h} handed_out waits is x = record {
@@ -408,6 +427,6 @@ holds_sent {channel} {state} {h} handed_out waits is x = record {
 
 -- ---- what was asked
 
--- the acts for one more request
+-- the acts in the notes of one more request are added at the end
 pub asked_more : {B : Type 0} (old new : List (List Act × B)) (acts : List Act) (u : B) → new ≡ old ++ (acts, u) ∷ [] → flat_map (λ x. x.0) new ≡ flat_map (λ x. x.0) old ++ acts
 asked_more old new acts u is = ap (flat_map (λ x. x.0)) is ∙ flat_push (λ x. x.0) old (acts, u)

@@ -1,3 +1,4 @@
+-- The lemmas on a connection: its consistent trace of requests and responses, its acts, the bodies that it receives, and what it waits for.
 mod AnswerLaws
 mod HoldLaws
 mod PassLaws

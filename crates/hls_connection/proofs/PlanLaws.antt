@@ -18,17 +18,17 @@ use Rattle.hls_connection.specs.{RequestContexts.{ForQuery, IsContextOf, IsDueFo
 use Rattle.hls_connection.proofs.{AnswerLaws.replies_discarded, CallLaws.response_due, PlayerLaws.programme_begun}
 use Rattle.hls_api.specs.declared.route.Route.TheVariants as routes
 
--- what was done stays so while the keeper knows nothing more
+-- acts that lead to what the keeper knew then lead to what it knows now, if that is the same
 pub acts_kept : (m : OtherActors) (a b now : Knowledge) (old new : List Act) → now ≡ b → ActsExtend m a old b new → ActsExtend m a old now new
 acts_kept m a b now old new same done = subst (λ (k : Knowledge). ActsExtend m a old k new) (sym same) done
 
--- the response shows the plan of a query's request, as it was found or added
+-- the reply that shows the plan of a query's request, as it was when added, is a reply to the request for the programme
 pub planned_begun : (s : State) (query : CatchupQuery) (file : ProgrammeFile) (a b : List Act) (begun : ProgrammeStart) (request : Request) (found : FoundPlan) (shown : ResponseData) → RecordsLook a s b
     → StartsProgramme s query begun → begun ≡ Planned request → HasAddedPlan request found → ShowsFound file found shown → HandlesProgramme (Some query) file a b shown
 planned_begun s query file a b begun request found shown looks starts is added shows =
     (s, looks, (Planned request, subst (λ (x : ProgrammeStart). StartsProgramme s query x) is starts, inl (found, added, shows)))
 
--- a response to one whose body was discarded
+-- a step that sends the reply for a programme, whose request's body was discarded, handles the request
 pub sent_programme : {E : Type 0} {channel : ServedChannel} {stream first unread : List ℕ} {context : RequestContext} {last : BodyFraming} (start stop : TimePoint) (file : ProgrammeFile) (acts : List Act)
     (response : Result ResponseData E) (step : Transition)
     → IsDiscarded channel stream first context (routes.Programme start stop file) last unread (Ok tt) → may_wait context.head.method ≡ true

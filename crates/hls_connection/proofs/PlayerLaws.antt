@@ -23,19 +23,19 @@ use Rattle.hls_jobs.specs.declared.plans.FoundPlan.TheVariants.{Unfinished}
 use Rattle.hls_connection.specs.{Plans.AwaitsPlanOf, RequestContexts.{IsMadeResponse, IsResponse, RespondsBy}, Waits.may_wait}
 use Rattle.hls_http.specs.declared.method.Method.TheVariants as methods
 
--- the reply that was made is what is shown
+-- if the answer was made that a player is shown, the result is what is shown
 pub is_shown : {E : Type 0} (result : Result ResponseData E) (answer : ResponseData) (shown : Option ResponseData) → shown ≡ Some answer →
     IfOk result (λ a. a ≡ answer) → IfOk result (λ a. shown ≡ Some a)
 is_shown (Ok a) answer shown is made = is ∙ ap (λ (x : ResponseData). Some x) (sym made)
 is_shown (Err e) answer shown is made = made
 
--- .. and the request is served by it
+-- if the state was looked at and what a player is shown was made, the request is served
 pub responds_to_player : {E : Type 0} (q : RequestParams) (route : Route) (a b : List Act) (s : State) (result : Result ResponseData E) → RecordsLook a s b →
     IfOk result (λ answer. shown_to_player q route s ≡ Some answer) → RespondsBy (λ x y answer. IsServedBy q route x answer y) a b result
 responds_to_player q route a b s (Ok answer) looks shown = player_served q route a b s answer looks shown
 responds_to_player q route a b s (Err e) looks shown = inl (inr (Looked s, inl (tt {0}), looks))
 
--- the metrics are of the state that is seen
+-- if the state was looked at and its metrics were made, the request is served
 pub responds_with_metrics : {E : Type 0} (q : RequestParams) (a b : List Act) (s : State) (result : Result ResponseData E) → RecordsLook a s b
     → IfOk result (λ answer. (jobs : ℕ) × HasCounted jobs × ((measured : Measured) × (answer ≡ metrics_answer s jobs measured))) → RespondsBy (λ x y answer. IsServedBy q routes.Metrics x answer y) a b result
 responds_with_metrics q a b s (Ok answer) looks (jobs, counted, (measured, is)) = (jobs, counted, (measured, (s, looks, is)))
@@ -43,48 +43,51 @@ responds_with_metrics q a b s (Err e) looks made = inl (inr (Looked s, inl (tt {
 
 -- ---- programmes
 
--- a plan that was unfinished is shown as it was found later
+-- a programme whose plan is awaited is answered with the plan as it was found later
 pub plan_shown : (said : Option CatchupQuery) (file : ProgrammeFile) (a b : List Act) (request : Request) (found : FoundPlan) (answer : ResponseData) → AwaitsPlanOf said a b request → HasFoundPlan request found
     → ShowsFound file found answer → HandlesProgramme said file a b answer
 plan_shown (Some query) file a b request found answer x gets shows = (x.state, x.looks, (Planned request, x.starts, inr (x.added, (found, gets, shows))))
 plan_shown None file a b request found answer x gets shows = absurd x
 
--- .. or as unfinished
+-- a programme whose plan is awaited is answered as unfinished
 pub plan_unfinished : (said : Option CatchupQuery) (file : ProgrammeFile) (a b : List Act) (request : Request) (answer : ResponseData) → AwaitsPlanOf said a b request
     → ShowsFound file Unfinished answer → HandlesProgramme said file a b answer
 plan_unfinished (Some query) file a b request answer x shows = (x.state, x.looks, (Planned request, x.starts, inl (Unfinished, x.added, shows)))
 plan_unfinished None file a b request answer x shows = absurd x
 
--- .. or its text couldn't be allocated
+-- a request whose plan is awaited has changed nothing
 pub plan_lost : (said : Option CatchupQuery) (a b : List Act) (request : Request) → AwaitsPlanOf said a b request → ActsChangeNothing a b
 plan_lost (Some query) a b request x = inr (Looked x.state, inl (tt {0}), x.looks)
 plan_lost None a b request x = absurd x
 
+-- the response that says that an awaited plan is unfinished is one to the request, or failed and changed nothing
 pub unfinished_shown : {E : Type 0} (said : Option CatchupQuery) (file : ProgrammeFile) (a b : List Act) (request : Request) (response : Result ResponseData E) → AwaitsPlanOf said a b request
     → IfOk response (λ answer. ShowsFound file Unfinished answer) → RespondsBy (HandlesProgramme said file) a b response
 unfinished_shown said file a b request (Ok answer) x shows = plan_unfinished said file a b request answer x shows
 unfinished_shown said file a b request (Err e) x shows = inl (plan_lost said a b request x)
 
--- a programme that the state doesn't have is refused
+-- a programme that the state doesn't have is answered with the refusal
 pub programme_refused : (query : CatchupQuery) (file : ProgrammeFile) (a b : List Act) (s : State) (answer : ResponseData) → RecordsLook a s b → StartsProgramme s query (Refused answer)
     → HandlesProgramme (Some query) file a b answer
 programme_refused query file a b s answer looks starts = (s, looks, (Refused answer, starts, refl))
 
--- .. and one that it has is shown as a table of plans has it
+-- a programme that the state has is answered with its plan as it was when added
 pub programme_found : (query : CatchupQuery) (file : ProgrammeFile) (a b : List Act) (s : State) (request : Request) (found : FoundPlan) (answer : ResponseData) → RecordsLook a s b
     → StartsProgramme s query (Planned request) → HasAddedPlan request found → ShowsFound file found answer → HandlesProgramme (Some query) file a b answer
 programme_found query file a b s request found answer looks starts added shows = (s, looks, (Planned request, starts, inl (found, added, shows)))
 
+-- a method whose response may wait is allowed for a programme
 allowed : (start stop : TimePoint) (file : ProgrammeFile) (method : Method) → may_wait method ≡ true → allows (routes.Programme start stop file) method ≡ true
 allowed start stop file methods.Get is = refl
 allowed start stop file methods.Head is = refl
 allowed start stop file method is = absurd (cc is)
 
--- it is a response to a request whose method's response may wait
+-- the reply for a programme is the response to a request with a method whose response may wait
 pub programme_response : (q : RequestParams) (start stop : TimePoint) (file : ProgrammeFile) (a b : List Act) (answer : ResponseData) → may_wait q.method ≡ true
     → HandlesProgramme (programme_query_in start stop q.query) file a b answer → IsResponse q (routes.Programme start stop file) a b answer
 programme_response q start stop file a b answer may shows = rw (allowed start stop file q.method may) shows
 
+-- the same of a response that was made or failed
 pub programme_begun : {E : Type 0} (q : RequestParams) (start stop : TimePoint) (file : ProgrammeFile) (acts : List Act) (response : Result ResponseData E) → may_wait q.method ≡ true
     → IsMadeResponse (HandlesProgramme (programme_query_in start stop q.query) file [] acts) [] acts response → IsMadeResponse (IsResponse q (routes.Programme start stop file) [] acts) [] acts response
 programme_begun q start stop file acts (Ok answer) may shows = programme_response q start stop file [] acts answer may shows

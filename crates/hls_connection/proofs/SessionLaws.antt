@@ -1,4 +1,4 @@
--- A session, from one moment to the next.
+-- A session, from one moment to the next: each lemma extends a run from its first moment.
 use Rattle.std.proofs.Common.{◌≡◌, ◌∙◌, ◌⊎◌, ℕ, ◌<◌, Bool, true, false, List, [], ◌++◌, length, take, drop, Option, Some, None, IsTrue, IsFalse, inl, inr, refl, sym, ap, subst, append_assoc, append-nil, arith}
 use Rattle.std.{proofs.lemmas.List.{nil_from_length, take-append-drop}, specs.Io.KnownBytes.{Consumes, IsAtEnd}}
 use Rattle.bytes.specs.Unread.{IsChunkOf}
@@ -17,18 +17,18 @@ use Rattle.hls_connection.specs.declared.state.ConnectionState.TheVariants as st
 
 -- ---- known bytes
 
--- the rest of an input after these bytes were read
+-- an input that was known is the bytes that were read and a known rest
 left_of : (input more : List ℕ) (left : Option (List ℕ)) → Consumes (Some input) left more → (later : List ℕ) × (left ≡ Some later) × (input ≡ more ++ later)
 left_of input more None consumes = absurd consumes
 left_of input more (Some later) consumes = (later, refl, consumes)
 
--- the waiting bytes are a chunk and the rest
+-- the pending bytes are a chunk at their front and the rest
 chunk_first : (waiting chunk : List ℕ) → IsChunkOf chunk waiting → waiting ≡ chunk ++ drop (length chunk) waiting
 chunk_first waiting chunk is = sym (take-append-drop (length chunk) waiting) ∙ ap (λ xs. xs ++ drop (length chunk) waiting) is.front
 
 -- ---- it continues
 
--- from its beginning, where nothing came but what was held
+-- a session has run from its first moment to that moment, if nothing was received but the bytes that its source held
 pub led_first : (between : OtherActors) (m : SessionMoment) (renditions : ℕ) (notes : ConnectionNotes) → IsFresh notes → m.at ≡ trace_after_read (trace_at (idle_machine (unmended_channel renditions) notes) []) m.at.past.unread false → IsState m.known.seen
     → renditions ≡ length m.known.seen.config.renditions → HasRun between m m
 led_first between m renditions notes fresh is valid count =
@@ -41,6 +41,7 @@ led_first between m renditions notes fresh is valid count =
       quiet = (refl, refl);
     })
 
+-- if a session has run to a moment and its connection then advances, it has run to the moment after
 pub led_advances : {between : OtherActors} {first m : SessionMoment} {b : Knowledge} {c : ConnectionTrace} → HasRun between first m → Advances between m.known m.at b c → HasRun between first (record m { at = c; known = b })
 led_advances {between} {first} {m} {b} {c} x y = record {
   past_acts = (y.suits, y.channel ∙ x.past_acts.1, acted_on between first.known m.known b [] (all_acts m.at) (all_acts c) x.past_acts.2 y.acted);
@@ -50,6 +51,7 @@ led_advances {between} {first} {m} {b} {c} x y = record {
   quiet = x.quiet;
 }
 
+-- if a session has run to a moment and then more bytes, or the input's end, are read, it has run to the moment after
 pub led_hears : {between : OtherActors} {first m : SessionMoment} {now : ConnectionTrace} (more : List ℕ) (ended : Bool) {left : Option (List ℕ)} {reads : ℕ} → now ≡ trace_after_read m.at more ended → IsNotOverIn m.at.state
     → Consumes m.left left more → (IsTrue ended → IsAtEnd left) → reads ≡ m.reads → HasRun between first m → HasRun between first (record m { at = now; left = left; reads = reads })
 led_hears {between} {first} {m} more ended {left} {reads} is going consumes at_end same x =
@@ -65,7 +67,7 @@ led_hears {between} {first} {m} more ended {left} {reads} is going consumes at_e
       quiet = (same ∙ x.quiet.0, x.quiet.1);
     })
 
--- some of the waiting bytes were taken and written
+-- if a session has run to a moment and then the first of the pending bytes are written, it has run to the moment after
 led_sent : {between : OtherActors} {first m : SessionMoment} (write_log waits : List ℕ) {contents : Option (List ℕ)} {writes : ℕ} → m.at.past.pending ≡ write_log ++ waits
     → ((held : List ℕ) → m.contents ≡ Some held → contents ≡ Some (held ++ write_log)) → writes ≡ m.writes → HasRun between first m
     → HasRun between first (record m { at = record m.at { past = record m.at.past { pending = waits; sent = m.at.past.sent ++ write_log } }; contents = contents; writes = writes })
@@ -77,6 +79,7 @@ led_sent {between} {first} {m} write_log waits is wrote same x = record {
   quiet = (x.quiet.0, same ∙ x.quiet.1);
 }
 
+-- if a session has run to a moment and then a chunk of the pending bytes is written whole, it has run to the moment after
 pub led_sends : {between : OtherActors} {first m : SessionMoment} {now : ConnectionTrace} (chunk : List ℕ) {contents : Option (List ℕ)} {writes : ℕ} → now ≡ trace_after_send m.at (length chunk) → IsChunkOf chunk m.at.past.pending
     → ((held : List ℕ) → m.contents ≡ Some held → Writes held chunk contents true) → writes ≡ m.writes → HasRun between first m
     → HasRun between first (record m { at = now; contents = contents; writes = writes })
@@ -88,6 +91,7 @@ led_sends {between} {first} {m} chunk {contents} {writes} sent is wrote same x =
 
 -- ---- it ends
 
+-- a run to a moment at which the session may end so is a session with this end
 session_of : {between : OtherActors} {first m : SessionMoment} (end : SessionEnd) → EndsSession end (stage_of m.at.state) m.at.past.pending → HasRun between first m
     → (input out : List ℕ) → first.left ≡ Some input → first.contents ≡ Some out → Session between first.known (first.at.past.unread ++ input) out m.contents m.known end
 session_of {between} {first} {m} end so x input out known there =
@@ -104,12 +108,12 @@ session_of {between} {first} {m} end so x input out known there =
       ends = so;
     }
 
--- by a failed read
+-- a run that ends by a failed read, while the connection has to be read from, is a session with that end
 pub ended_unread : {between : OtherActors} {first m : SessionMoment} {reads : ℕ} → WantsMore m.at → FailuresRose m.reads reads → HasRun between first m → HasRunToEnd between first (record m { reads = reads }) ends.ReadFailed
 ended_unread {m} wants rose x =
     (session_of ends.ReadFailed (wants.2, nil_from_length m.at.past.pending wants.1) x, (rw x.quiet.0 at rose, x.quiet.1))
 
--- by a failed write, after a first part of the waiting bytes
+-- a run that ends by a failed write, after a first part of a chunk was written, is a session with that end
 pub ended_unwritten : {between : OtherActors} {first m : SessionMoment} (chunk : List ℕ) (contents : Option (List ℕ)) (writes : ℕ) → IsChunkOf chunk m.at.past.pending
     → ((held : List ℕ) → m.contents ≡ Some held → Writes held chunk contents false) → FailuresRose m.writes writes → HasRun between first m
     → HasRunToEnd between first (record m { contents = contents; writes = writes }) ends.WriteFailed
@@ -125,7 +129,7 @@ ended_unwritten {first} {m} chunk contents writes is wrote rose x =
       (x.quiet.0, rw x.quiet.1 at rose),
     )
 
--- by the connection itself, where all was sent; no reader or writer failed then
+-- a run to the connection's own end, with nothing pending, is a session with that end
 pub ended_itself : {between : OtherActors} {first m : SessionMoment} (end : SessionEnd) → m.at.state ≡ states.Ended end → length m.at.past.pending ≡ 0 → HasRun between first m → HasRunToEnd between first m end
 ended_itself {between} {first} {m} end over empty x =
     by end (subst (λ (state : ConnectionState). IsInState state m.at.channel m.at.past.ended x.holds.rest x.holds.acts x.holds.text m.at.past.unread) over x.holds.stage_is)
@@ -140,7 +144,7 @@ ended_itself {between} {first} {m} end over empty x =
 
 -- ---- a connection that waits for more
 
--- it waits: nothing is to be sent, the input hasn't ended, nothing can be done with what is unread, and there is room for more
+-- an open connection with nothing pending that can make no step: the input hasn't ended, more bytes are needed, and there is room
 pub rests_before : (c : ConnectionTrace) → length c.past.pending ≡ 0 → IsNotOverIn c.state → TraceIsIdleOrBlocked c → IsFalse c.past.ended × LacksMore c.state c.past.unread × (length c.past.unread < 16384)
 rests_before c empty going (inl some) = absurd (omega (arith, empty, some))
 rests_before c empty going (inr (inl over)) = absurd (not_both (stage_of c.state) going over)
@@ -150,6 +154,7 @@ rests_before c empty going (inr (inl over)) = absurd (not_both (stage_of c.state
     not_both stage going over = over
 rests_before c empty going (inr (inr waits)) = (waits.0, waits.2, waits.1)
 
+-- an open connection with nothing pending that can make no step has to be read from
 pub rests_open : (c : ConnectionTrace) → length c.past.pending ≡ 0 → IsNotOverIn c.state → TraceIsIdleOrBlocked c → WantsMore c
 rests_open c empty going idle_or_blocked =
     let waits = rests_before c empty going idle_or_blocked in
@@ -159,7 +164,7 @@ rests_open c empty going idle_or_blocked =
     awake (states.Wait w) unread lacks = absurd lacks
     awake state unread lacks = refl
 
--- where no time is given nothing waits
+-- without a time no response waits, so a connection without more to do is idle or blocked
 pub untimed : (c : ConnectionTrace) → TraceIsIdleOrBlocked c ⊎ TraceWaits c → (TraceWaits c → IsAhead None (deadline_in c.state)) → TraceIsIdleOrBlocked c
 untimed c (inl idle_or_blocked) timely = idle_or_blocked
 untimed c (inr waits) timely = absurd (never (deadline_in c.state) (timely waits))

@@ -1,4 +1,4 @@
--- A connection by all that came of it, from one call to the next.
+-- A connection's trace, from one call to the next.
 use Rattle.hls_api.specs.declared.route.ServedChannel.{ServedChannel}
 use Rattle.std.proofs.{Common.{◌≡◌, ◌∙◌, ℕ, List, [], length, take, drop, append_assoc, refl, sym, subst, ap}, lemmas.List.take-append-drop}
 use Rattle.hls_core_laws.specs.{IsState.IsState}
@@ -17,37 +17,45 @@ use Rattle.hls_connection.specs.declared.connection.ConnectionMemory.TheVariants
 
 -- ---- an idle connection
 
+-- the history of an idle connection with fresh notes is that of a new connection
 pub idle_history : (channel : ServedChannel) (notes : ConnectionNotes) → IsFresh notes → history_of (trace_at (idle_machine channel notes) []) ≡ new_history
 idle_history channel notes fresh = rw (fresh.acts, fresh.reads, fresh.writes)
 
+-- an idle connection with fresh notes is consistent
 pub idle_holds : (channel : ServedChannel) (notes : ConnectionNotes) → IsFresh notes → IsConsistentTrace (trace_at (idle_machine channel notes) [])
 idle_holds channel notes fresh = rw (fresh.acts, fresh.reads, fresh.writes)
     (record { over = []; rest = []; serves = λ later. refl; acts = []; asked_is = refl; text = []; written = refl; stage_is = (refl, refl, refl) })
 
 -- ---- what is read and sent
 
+-- a consistent connection stays consistent when the first `count` of its pending bytes are sent
 pub sends_holds : (c : ConnectionTrace) (count : ℕ) → IsConsistentTrace c → IsConsistentTrace (trace_after_send c count)
 sends_holds c count h = holds_sent (take count c.past.pending) (drop count c.past.pending) (sym (take-append-drop count c.past.pending)) h
 
 -- ---- what the keeper knows
 
+-- a keeper that suits a body still suits it with later knowledge
 target_later : (a b : Knowledge) (target : BodyTarget) (taken : IngestState) → IsState b.seen → IsLaterKnowledge a b → SuitsTarget a target taken → SuitsTarget b target taken
 target_later a b (targets.Nothing room) taken valid later suits = tt
 target_later a b (targets.Encoder encoder reader) taken valid later suits = usable_after encoder.rendition a b taken.init valid later.follows suits
 
+-- a keeper that suits a state still suits it with later knowledge
 suits_in : (a b : Knowledge) (state : ConnectionState) → IsState b.seen → IsLaterKnowledge a b → SuitsState a state → SuitsState b state
 suits_in a b (states.Receive r) valid later suits = (target_later a b r.target r.taken valid later suits.0, suits.1)
 suits_in a b state valid later suits = suits
 
+-- a keeper that suits a connection has seen a valid state
 pub suited_valid : {known : Knowledge} {channel : ServedChannel} {acts : List Act} {state : ConnectionState} → IsSuited known channel acts state → IsState known.seen
 suited_valid {known} {channel} {acts} x = (linked_follows acts x.first known x.valid x.linked).0
 
+-- a keeper that suits a connection still suits it with later knowledge
 pub suited_later : (a b : Knowledge) (c : ConnectionTrace) → IsSuitedTo a c → IsLaterKnowledge a b → IsSuitedTo b c
 suited_later a b c x later =
     let linked = linked_later (all_acts c) x.first a b x.linked later in
     let valid = (linked_follows (all_acts c) x.first b x.valid linked).0 in
     record { first = x.first; valid = x.valid; count_is = x.count_is; linked = linked; body = suits_in a b c.state valid later x.body }
 
+-- a keeper that saw a valid state with as many renditions suits a connection without acts between requests
 pub suited_new : {known : Knowledge} {channel : ServedChannel} {acts : List Act} → IsState known.seen → channel.renditions ≡ length known.seen.config.renditions → acts ≡ [] → IsSuited known channel acts states.Head
 suited_new {known} valid count_is nothing = record {
   first = known;
@@ -59,6 +67,7 @@ suited_new {known} valid count_is nothing = record {
 
 -- ---- steps
 
+-- a connection that does nothing advances to itself
 pub advances_none : (m : OtherActors) {known : Knowledge} {c : ConnectionTrace} → IsSuitedTo known c → Advances m known c known c
 advances_none m {known} {c} suits = record {
   suits = suits;
@@ -68,7 +77,7 @@ advances_none m {known} {c} suits = record {
   channel = refl;
 }
 
--- what the keeper knows after these acts suits a state that suits it
+-- if a keeper suits a connection, it does after acts that lead from its knowledge to a state that it suits
 suited_after : (m : OtherActors) {a b : Knowledge} {channel : ServedChannel} {before after : List Act} {old new : ConnectionState} → IsSuited a channel before old → ActsExtend m a before b after → SuitsState b new → IsSuited b channel after new
 suited_after m {a} {b} {channel} {before} {after} x acted body = record {
   first = x.first;
@@ -78,7 +87,7 @@ suited_after m {a} {b} {channel} {before} {after} x acted body = record {
   body = body;
 }
 
--- one step: some of what is unread was taken, and the step leads on
+-- a connection advances by a step that keeps it consistent, whose acts lead from what the keeper knew to what it knows
 pub advances_step : (m : OtherActors) {a b : Knowledge} (c : ConnectionTrace) (step : Transition) (unread : List ℕ) → IsSuitedTo a c → c.past.pending ≡ []
     → StepStaysConsistent c.channel c.past.ended c.state c.past.unread step unread → ActsExtend m a (current_acts c.state) b (acts_of_step step) → SuitsState b step.state
     → Advances m a c b (trace_after_step (record c { past = record c.past { unread = unread } }) step)
@@ -92,7 +101,7 @@ advances_step m {a} {b} c step unread suits empty goes act_steps body =
       channel = refl;
     }
 
--- no step: more of a body was received
+-- a connection whose body is received further stays consistent
 pub receives : {channel : ServedChannel} {old new : ReceivingBody} {h : History} (unread : List ℕ) → ((stream first : List ℕ) → IsReceiving channel stream first old h.unread → IsReceiving channel stream first new unread)
     → IsConsistent channel (states.Receive old) h → IsConsistent channel (states.Receive new) (record h { unread = unread })
 receives {h} unread goes x = record {
@@ -106,6 +115,7 @@ receives {h} unread goes x = record {
   stage_is = (goes x.rest x.text x.stage_is.0, x.stage_is.1);
 }
 
+-- a connection advances to another state of the same request that keeps it consistent, with acts that lead on
 pub advances_within : (m : OtherActors) {a b : Knowledge} (c : ConnectionTrace) (state : ConnectionState) (unread : List ℕ) → IsSuitedTo a c
     → (IsConsistent c.channel c.state c.past → IsConsistent c.channel state (record c.past { unread = unread })) → ActsExtend m a (current_acts c.state) b (current_acts state) → SuitsState b state
     → Advances m a c b (record c { state = state; past = record c.past { unread = unread } })
@@ -119,6 +129,7 @@ advances_within m {a} {b} c state unread suits goes act_steps body =
       channel = refl;
     }
 
+-- two advances in a row are one
 pub advances_on : (m : OtherActors) {a b c : Knowledge} {old here new : ConnectionTrace} → Advances m a old b here → Advances m b here c new → Advances m a old c new
 advances_on m {a} {b} {c} {old} {here} {new} x y = record {
   suits = y.suits;
@@ -130,18 +141,22 @@ advances_on m {a} {b} {c} {old} {here} {new} x y = record {
 
 -- ---- with or without memory of its own
 
+-- a connection that received nothing has the history of a new one
 pub nothing_history : (memory : ConnectionMemory) (channel : ServedChannel) → HasNothing memory channel → history_of (trace_of memory) ≡ new_history
 nothing_history (places.Idle own notes) channel x = idle_history own notes x.1
 nothing_history (places.Active b) channel x = absurd x
 
+-- a connection that received nothing serves the channel for which it was made
 pub nothing_channel : (memory : ConnectionMemory) (channel : ServedChannel) → HasNothing memory channel → (trace_of memory).channel ≡ channel
 nothing_channel (places.Idle own notes) channel x = x.0
 nothing_channel (places.Active b) channel x = absurd x
 
+-- a connection that received nothing is consistent
 pub nothing_holds : (memory : ConnectionMemory) (channel : ServedChannel) → HasNothing memory channel → IsConsistentTrace (trace_of memory)
 nothing_holds (places.Idle own notes) channel x = idle_holds own notes x.1
 nothing_holds (places.Active b) channel x = absurd x
 
+-- a keeper that saw a valid state with as many renditions suits a connection that received nothing
 pub nothing_suits : {known : Knowledge} (memory : ConnectionMemory) (channel : ServedChannel) → HasNothing memory channel → IsState known.seen → channel.renditions ≡ length known.seen.config.renditions → IsSuitedTo known (trace_of memory)
 nothing_suits (places.Idle own notes) channel x valid is = suited_new valid (ap (λ (c : ServedChannel). c.renditions) x.0 ∙ is) (rw x.1.acts)
 nothing_suits (places.Active b) channel x valid is = absurd x

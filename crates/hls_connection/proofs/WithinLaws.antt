@@ -22,10 +22,11 @@ use Rattle.hls_connection.specs.declared.receive.BodyTarget.TheVariants as targe
 
 -- ---- one step more
 
--- fewer bytes are unread after some were taken
+-- fewer bytes are unread after `len` of them were taken
 pub fewer : (len : ℕ) (unread : List ℕ) → 0 < len → len ≤ length unread → length (drop len unread) < length unread
 fewer len unread some within = omega (arith, some, within, length-drop len unread)
 
+-- a request with some of its body is one after a further step of the body
 abbrev pub body_goes : {channel : ServedChannel} {stream first : List ℕ} {context : RequestContext} {action : BodyFraming → RequestAction} {b : BodyFraming} {unread : List ℕ} → HasBody channel stream first context action b unread
     → (next : BodyFraming) (piece rest : List ℕ) → Steps b unread piece next rest → HasBody channel stream first context action next rest
 body_goes {b} {unread} at next piece rest s = record {
@@ -43,24 +44,27 @@ body_goes {b} {unread} at next piece rest s = record {
 
 -- ---- a body that is dropped: how much of it may still be announced
 
+-- the framing after the size line of a chunk announces its size
 announced_size : (size : ℕ) → announced_len (framing_after_size size) ≡ size
 announced_size zero = refl
 announced_size (suc n) = refl
 
--- what frames comes where nothing is announced, and only a size line announces bytes
+-- the step took no content from a body with nothing announced, and only a size line announces bytes after it
 record Frames (b next : BodyFraming) (held piece rest : List ℕ) : Type 0 where
   bare : length piece ≡ 0
   done : announced_len b ≡ 0
   line : 0 < announced_len next → (b ≡ Size) × ReadsLine held (announced_len next) rest
 
--- a piece is of what was announced
+-- the step took content that was announced, or it took none and only framing
 abbrev Rooms : BodyFraming → BodyFraming → List ℕ → List ℕ → List ℕ → Type 0
 Rooms b next held piece rest = ((0 < length piece) × (announced_len next + length piece ≡ announced_len b)) ⊎ Frames b next held piece rest
 
+-- a step within or at the end of a chunk's data takes announced content or only framing
 data_room : (n : ℕ) (next : BodyFraming) (held piece rest : List ℕ) → TakesData n held piece next rest ⊎ EndsData n held piece next rest → Rooms (Data n) next held piece rest
 data_room n next held piece rest (inl s) = inl (s.1.some, omega (arith, s.1.count, ap announced_len s.2))
 data_room n next held piece rest (inr s) = inr (record { bare = ap length s.2; done = s.0; line = λ many. absurd (omega (arith, many, ap announced_len s.3)) })
 
+-- each step of a body takes announced content or only framing
 room : (b next : BodyFraming) (held piece rest : List ℕ) → Steps b held piece next rest → Rooms b next held piece rest
 room (Length n) next held piece rest s = inl (s.1.some, omega (arith, s.1.count, ap announced_len s.2))
 room Size next held piece rest s =
@@ -69,11 +73,13 @@ room Size next held piece rest s =
 room (Data n) next held piece rest s = data_room n next held piece rest s
 room Trailers next held piece rest s = inr (record { bare = ap length s.1; done = refl; line = λ many. absurd (omega (arith, many, ap announced_len s.2)) })
 
+-- a step of a body without content takes only framing
 frames : (b next : BodyFraming) (held rest : List ℕ) → Steps b held [] next rest → Frames b next held [] rest
 frames b next held rest s = elim (room b next held [] rest s) [ inl piece ↦ absurd (omega (arith, piece.0)) | inr it ↦ it ]
 
 -- what is counted of it fits, step by step
 module _ (room_left : ℕ) (content : List ℕ) (last : BodyFraming) (unread : List ℕ) (all : (room_left + length content) + announced_len last ≡ 65536) where
+  -- after a piece of the content the room, the content and what is announced still add up to 65536 bytes
   piece_counted : (next : BodyFraming) (len : ℕ) → IsToken last unread (moves.Piece len next) → (room_left + length (content ++ take len unread)) + announced_len next ≡ 65536
   piece_counted next len found = by (room last next unread (take len unread) (drop len unread) found.2)
     where
@@ -81,9 +87,11 @@ module _ (room_left : ℕ) (content : List ℕ) (last : BodyFraming) (unread : L
       by (inl fits) = omega (arith, all, fits.1, length-append content (take len unread))
       by (inr none) = absurd (omega (arith, none.bare, found.0, length-take-le len unread found.1))
 
+  -- after framing for which there is room they still add up to 65536 bytes
   frame_counted : (next : BodyFraming) (rest : List ℕ) → Steps last unread [] next rest → announced_len next ≤ room_left → ((room_left - announced_len next) + length (content ++ [])) + announced_len next ≡ 65536
   frame_counted next rest s fits = omega (arith, all, fits, (frames last next unread rest s).done, length-append content [])
 
+  -- framing for which there is no room is a chunk's size line past the limit
   past_limit : (next : BodyFraming) (rest : List ℕ) → Steps last unread [] next rest → room_left < announced_len next → (later : List ℕ) → (last ≡ Size) × IsPastLimit content (unread ++ later)
   past_limit next rest s many later =
       let f = frames last next (unread ++ later) (rest ++ later) (step_stays last next unread [] rest later s) in
@@ -92,13 +100,13 @@ module _ (room_left : ℕ) (content : List ℕ) (last : BodyFraming) (unread : L
 
 -- ---- where a refusal is in an encoder's body
 
--- no bytes by length are left of a body in chunks
+-- a body in chunks isn't over after a piece of its data
 chunks_go_on : (middle last : BodyFraming) → ((n : ℕ) → middle ≡ Length (suc n) → ⊥) → IsLastAlone middle last → is_over last ≡ false
 chunks_go_on middle (Length zero) never alone = absurd (never 0 (alone refl))
 chunks_go_on middle (Length (suc n)) never alone = ne_eqb (suc n) 0 (λ is. omega (arith, is))
 chunks_go_on middle last never alone = refl
 
--- what a piece shows is at the end of a body by length if the piece is its last byte, and before the end otherwise
+-- if a refusal shows in the last piece of a body by length, the body is over exactly if the refusal is at its last byte
 length_ends : (n before after size left : ℕ) (middle last : BodyFraming) → Leaves (Length n) before middle → last ≡ Length left → after + left ≡ n → IsLastAlone middle last
     → before < size → size ≤ after → is_over last ≡ nat_eq size n
 length_ends n before after size zero middle last l is count alone following within =
@@ -106,6 +114,7 @@ length_ends n before after size zero middle last l is count alone following with
 length_ends n before after size (suc k) middle last l is count alone following within =
     ap is_over is ∙ ne_eqb (suc k) 0 (λ none. omega (arith, none)) ∙ sym (ne_eqb size n (λ same. omega (arith, same, count, within)))
 
+-- if a refusal shows in the last piece of a body, the body is over exactly if it ends after that many bytes
 ends_so : (b middle last : BodyFraming) (before after size : ℕ) → Leaves b before middle → Leaves b after last → IsLastAlone middle last → before < size → size ≤ after → is_over last ≡ ends_at b size
 ends_so (Length n) middle last before after size l later alone following within = length_ends n before after size later.0 middle last l later.1 later.2 alone following within
 ends_so Size middle last before after size l later alone following within = chunks_go_on middle last l alone
@@ -115,6 +124,7 @@ ends_so Trailers middle last before after size l later alone following within = 
 -- ---- a step of a body that is received
 
 module _ {channel : ServedChannel} {stream first : List ℕ} {r : ReceivingBody} {unread : List ℕ} (x : IsReceiving channel stream first r unread) where
+  -- a body is received further after a piece that was taken
   pub receive_piece : (target : BodyTarget) (taken : IngestState) (next : BodyFraming) (len : ℕ) → IsToken r.body unread (moves.Piece len next) → TakesPiece r.target r.taken (take len unread) target taken (Ok tt)
       → IsReceiving channel stream first (record r { body = next; target = target; taken = taken }) (drop len unread)
   receive_piece target taken next len found takes = by r.target x.at x.received takes
@@ -133,7 +143,7 @@ module _ {channel : ServedChannel} {stream first : List ℕ} {r : ReceivingBody}
       })
       by (targets.Encoder encoder reader) at (is, reached) (later, same, (Err fault, told, feeds)) = absurd (cc told)
 
-  -- .. that isn't taken in whole
+  -- a body whose piece was refused, or failed for lack of memory, has been received with that result
   pub receive_untaken : (target : BodyTarget) (taken : IngestState) (next : BodyFraming) (len : ℕ) (stop : IngestStop) → IsToken r.body unread (moves.Piece len next) → length unread ≤ 65536
       → TakesPiece r.target r.taken (take len unread) target taken (Err stop) → IsReceived channel stream first (record r { body = next; target = target; taken = taken }) target (drop len unread) (Err stop)
   receive_untaken target taken next len stop found few takes = by r.target x.at x.received takes
@@ -165,6 +175,7 @@ module _ {channel : ServedChannel} {stream first : List ℕ} {r : ReceivingBody}
         replied = λ end is. cc;
       })
 
+  -- a body is received further after framing for which there is room
   pub receive_frame : (next : BodyFraming) (rest : List ℕ) → Steps r.body unread [] next rest → HasRoom r.target (announced_len next)
       → IsReceiving channel stream first (record r { body = next; target = target_after_frame r.target (announced_len next) }) rest
   receive_frame next rest s fits = by r.target x.at x.received fits
@@ -178,6 +189,7 @@ module _ {channel : ServedChannel} {stream first : List ℕ} {r : ReceivingBody}
         received = (is, subst (λ (c : List ℕ). Reached (IngestsPart encoder) no_progress c reader (progress_of r.taken)) (sym (append-nil at.content)) reached);
       }
 
+  -- a discarded body whose framing exceeds its room has been discarded as too large
   pub receive_too_large : (next : BodyFraming) (rest : List ℕ) → Steps r.body unread [] next rest → (HasRoom r.target (announced_len next) → ⊥) → DiscardsSo channel stream first r unread (Err discards.TooLarge)
   receive_too_large next rest s large = by r.target x.at x.received large
     where
@@ -187,6 +199,7 @@ module _ {channel : ServedChannel} {stream first : List ℕ} {r : ReceivingBody}
           (nothing, record { at = at; route_is = x.route; discarded = past_limit room at.content r.body unread all next rest s (omega (arith, large)) })
       by (targets.Encoder encoder reader) at received large = absurd (large tt)
 
+  -- a body with no bytes left to come has been received with the result at its end
   pub receive_over : (result : Result (Unit {0}) IngestStop) → r.body ≡ Length 0 → EndsTarget r.target result → IsReceived channel stream first r r.target unread result
   receive_over result over ends = by r.target x.at x.received ends
     where
@@ -210,6 +223,7 @@ module _ {channel : ServedChannel} {stream first : List ℕ} {r : ReceivingBody}
       by (targets.Encoder encoder reader) at received (of, is, ends) =
           rw is (ended encoder reader at received of (ends at.content received.1.taken.no_fault received.1.left))
 
+  -- a body with bad framing has been received with that result
   pub receive_broken : IsBroken r.body unread → IsReceived channel stream first r r.target unread (Err (ingest_stops.Stopped bodies.BadFraming))
   receive_broken broken = by r.target x.at x.received
     where

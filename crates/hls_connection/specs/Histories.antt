@@ -1,29 +1,29 @@
--- What becomes of a connection's history.
+-- What a read or a write does to a connection's history.
 use Rattle.std.specs.{Prelude.{◌≡◌, ℕ, false, List, [], ◌++◌, ◌==◌, length, take, drop, Option}, Io.KnownBytes.{Consumes, IsAtEnd, Keeps}}
 use Rattle.hls_api.specs.ConnectionStates.{History}
 
--- nothing came and nothing was asked
+-- the history of a new connection: nothing was received, done or sent
 abbrev pub new_history : History
 new_history = record { received = []; ended = false; unread = []; acts = []; sent = []; pending = [] }
 
--- these bytes were read; none is the input's end
+-- the history after these bytes were read; no bytes mean the end of the input
 abbrev pub after_read : History → List ℕ → History
 after_read h more = record h { received = h.received ++ more; ended = length more == 0; unread = h.unread ++ more }
 
--- this many of the waiting bytes were sent
+-- the history after the first `count` of the pending bytes were sent
 abbrev pub after_sent : History → ℕ → History
 after_sent h count = record h { sent = h.sent ++ take count h.pending; pending = drop count h.pending }
 
--- a read returned this many bytes of what was still to come, 0 only at its end
+-- a read returned the next n bytes of the input; n is 0 only at the input's end
 abbrev pub HasRead : History → History → Option (List ℕ) → Option (List ℕ) → ℕ → Type 0
 HasRead old new before left n =
     (more : List ℕ) × (length more ≡ n) × Consumes before left more × (new ≡ after_read old more) × (n ≡ 0 → IsAtEnd left)
 
--- a read failed, and nothing has changed
+-- a read failed, and the history and the input stay as they were
 abbrev pub FailsToRead : History → History → Option (List ℕ) → Option (List ℕ) → Type 0
 FailsToRead old new before left = (new ≡ old) × Keeps before left
 
--- nothing was read and nothing handed out
+-- nothing was read and nothing was sent
 pub record StaysQuiet (old new : History) : Type 0 where
   pub received : new.received ≡ old.received
   pub ended : new.ended ≡ old.ended

@@ -1,3 +1,4 @@
+-- What a connection has received, done and sent; its states, when it is consistent, and what it waits for or still needs.
 pub mod Alone
 pub mod RequestContexts
 pub mod FailureCounts

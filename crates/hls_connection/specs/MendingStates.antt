@@ -1,4 +1,4 @@
--- How far a part was taken of a body whose units are mended.
+-- How far a part of a body was taken, if units are mended.
 use Rattle.std.specs.Prelude.{◌≡◌, ◌<◌, ℕ, Bool, true, false, Option, Some, None, Result, Ok, Err, List, length, take, slice_index_or}
 use Rattle.hls_media_laws.specs.{InitData.InitData, IsInitOrUnit.IsUnit}
 use Rattle.hls_core_laws.specs.declared.{event.Event.TheVariants.Accept, refusal.Refusal.{Refusal, TheVariants.Overlap}, done.Done.Done}
@@ -12,14 +12,15 @@ use Rattle.hls_api.specs.GapLimits.{settings_for}
 use Rattle.hls_api.specs.Ingest.{ChoosesInit, DecidesPart, DecidesUnit, Progress, RefusesAhead, StopsBeforeUnit, SubmitsFiller, SubmitsFillers, end_after, mended_for, mended_result, with_mended}
 use Rattle.hls_core.specs.declared.feed_fault.FeedFault.TheVariants as feed_faults
 
--- nothing changes but the acts; or the acts and the counts
+-- the progress with other acts
 abbrev pub with_acts : Progress → List Act → Progress
 with_acts x acts = record x { acts = acts }
 
+-- the progress with other counts and acts
 abbrev pub with_counts : Progress → IngestCounts → List Act → Progress
 with_counts x counts acts = record x { acts = acts; counts = counts }
 
--- a unit's facts under the init section that was found
+-- a unit was read under the init section that was found
 abbrev pub HasReadUnit : Option InitData → ReadUnit → Type 0
 HasReadUnit None u = ⊥
 HasReadUnit (Some init) u = IsUnit init u.bytes u.facts
@@ -52,6 +53,7 @@ pub record IsPrepared (settings : MendSettings) (r : ℕ) (x : Progress) (bytes 
   pub counts : y.counts ≡ x.counts
   pub end : y.end ≡ x.end
 
+-- what is submitted for a unit was decided; or the unit was refused or an allocation failed, and it isn't submitted
 abbrev pub PreparesOrStops : MendSettings → ℕ → Progress → List ℕ → Progress → Result MendedUnit FeedFault → Type 0
 PreparesOrStops settings r x bytes y (Ok mended) = IsPrepared settings r x bytes y mended
 PreparesOrStops settings r x bytes y (Err fault) = StopsBeforeUnit settings r x bytes y (Err fault)
@@ -73,7 +75,7 @@ pub record StopsAtOverlap (r : ℕ) (x : Progress) (fillers : List ReadUnit) (co
   pub fills : SubmitsFillers r (take count fillers) x.counts x.acts counts before
   pub overlaps : RecordsSubmit before (Accept r filler.facts filler.bytes) (Err Overlap) after
 
--- an allocation failed after the first `count` fillers
+-- an allocation failed in a filler, after the first `count` were submitted
 pub record StopsInFillers (r : ℕ) (x : Progress) (fillers : List ReadUnit) (after : List Act) : Type 0 where
   pub count : ℕ
   pub filled : IngestCounts
@@ -88,7 +90,7 @@ SubmitsFillersOrFail r x fillers y (Ok false) = (y ≡ with_counts x y.counts y.
 SubmitsFillersOrFail r x fillers y (Err (feed_faults.Refused fault)) = ⊥
 SubmitsFillersOrFail r x fillers y (Err feed_faults.Memory) = StopsInFillers r x fillers y.acts
 
--- a unit is submitted, with this answer
+-- a unit is submitted, and the counts, the end and the result are by its answer
 pub record SubmitsMended (r : ℕ) (x : Progress) (u : ReadUnit) (changed : Bool) (y : Progress) (result : Result (Unit {0}) FeedFault) : Type 0 where
   pub answer : Result Done Refusal
   pub submits : RecordsSubmit x.acts (Accept r u.facts u.bytes) answer y.acts

@@ -11,7 +11,7 @@ EndsBeforeStep Between channel ended stream acts text unread s = (unread ≡ [])
 EndsBeforeStep Within channel ended stream acts text unread s = IsOpen s.last unread
 EndsBeforeStep (Over end) channel ended stream acts text unread s = ⊥
 
--- what was received is answered, up to such a place
+-- what was received is served up to a place where nothing more can be done with the unread bytes
 pub record NeedsMore (channel : ServedChannel) (stage : Stage) (h : History) : Type 0 where
   pub served : IsServed channel stage h
   pub before : EndsBeforeStep stage channel h.ended served.rest served.acts served.text h.unread served.stage_is

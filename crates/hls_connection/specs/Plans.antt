@@ -13,19 +13,19 @@ use Rattle.hls_api.specs.declared.programme_responses.ProgrammeStart.TheVariants
 use Rattle.hls_connection.specs.declared.handlers.ProgrammeStep.{ProgrammeStep}
 use Rattle.hls_connection.specs.declared.handlers.ProgrammeStep.TheVariants.{Respond, Await}
 
--- the state that is seen has the programme, and its plan was unfinished when it was asked for
+-- the state that is seen has the programme, and its plan was added to the table and is unfinished
 pub record AwaitsPlan (query : CatchupQuery) (a b : List Act) (request : Request) : Type 0 where
   pub state : State
   pub looks : RecordsLook a state b
   pub starts : StartsProgramme state query (Planned request)
   pub added : HasAddedPlan request Unfinished
 
--- .. of a valid query
+-- .. for a query, if it is valid
 abbrev pub AwaitsPlanOf : Option CatchupQuery → List Act → List Act → Request → Type 0
 AwaitsPlanOf None a b request = ⊥
 AwaitsPlanOf (Some query) a b request = AwaitsPlan query a b request
 
--- a response; or the plan is awaited; after an allocation failure nothing was done
+-- a request for a programme is answered, or its plan is awaited; an allocation failure leaves the channel as it was
 abbrev pub BeginsProgramme : {E : Type 0} → Option CatchupQuery → ProgrammeFile → List Act → List Act → Result ProgrammeStep E → Type 0
 BeginsProgramme said file a b (Ok (Respond shown)) = HandlesProgramme said file a b shown
 BeginsProgramme said file a b (Ok (Await request)) = AwaitsPlanOf said a b request

@@ -5,8 +5,7 @@ use Rattle.hls_http.specs.{declared.{end.SessionEnd.SessionEnd, session.Session.
 use Rattle.hls_api.specs.{Acts.Knowledge, OtherActors.OtherActors}
 use Rattle.hls_api.specs.Sessions as spec
 
--- if the input that is still to come and what the writer holds are known, they are a session's, from what its keeper knew before it to what
--- it knows now; others may act meanwhile
+-- if the remaining input and the writer's contents are known, this is a session from what its keeper knew before to what it knows now
 abbrev pub RunsSession : {R W : Type 0} → OtherActors → (R → Option (List ℕ)) → (W → Option (List ℕ)) → Session R W → Session R W → Knowledge → Knowledge → SessionEnd → Type 0
 RunsSession m remaining contents old new a b end =
     (input out : List ℕ) → remaining (reader_of old.source) ≡ Some input → contents (inner_of old.writer) ≡ Some out

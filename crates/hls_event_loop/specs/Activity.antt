@@ -3,11 +3,11 @@ use Rattle.std.specs.Prelude.{ℕ, ◌+◌, ◌-◌, ◌*◌, ◌^◌, Bool, fal
 use Rattle.hls_event_loop.specs.declared.activity.ConnectionStage.TheVariants.{Idle, Head, Ingesting, Discarding, Waiting, Writing, Responding, Lingering}
 use Rattle.hls_event_loop.specs.declared.activity.{ConnectionStage.ConnectionStage, Activity.Activity}
 
--- a stage that begins now
+-- the activity of a stage that begins now
 abbrev pub activity_from : ConnectionStage → ℕ → Activity
 activity_from stage now = record { stage = stage; since_ms = now; moved_ms = now; bytes = 0 }
 
--- bytes were received or sent
+-- the activity after bytes were received or sent
 abbrev pub activity_with_bytes : ℕ → ℕ → Activity → Activity
 activity_with_bytes bytes now activity = record { stage = activity.stage; since_ms = activity.since_ms; moved_ms = now; bytes = min (activity.bytes + bytes) (2 ^ 64 - 1) }
 
@@ -36,14 +36,16 @@ is_timed_out_in Writing idle_timeout_s activity now = false
 is_timed_out_in Responding idle_timeout_s activity now = is_silent idle_timeout_s activity now || is_slow idle_timeout_s activity now
 is_timed_out_in Lingering idle_timeout_s activity now = nat_le 2000 (now - activity.since_ms) || nat_le 250 (now - activity.moved_ms)
 
+-- a connection is too slow, by its stage
 abbrev pub is_timed_out : ℕ → Activity → ℕ → Bool
 is_timed_out idle_timeout_s activity now = is_timed_out_in activity.stage idle_timeout_s activity now
 
--- in stages with a minimum rate, the byte count restarts whenever it covers the idle timeout
+-- a byte count that covers the idle timeout restarts now
 abbrev pub with_zeroed_bytes : ℕ → ℕ → Activity → Activity
 with_zeroed_bytes idle_timeout_s now activity =
     cond (is_measured idle_timeout_s activity now) (record { stage = activity.stage; since_ms = now; moved_ms = activity.moved_ms; bytes = 0 }) activity
 
+-- only stages with a minimum rate restart the byte count: a discarded body and a response
 abbrev pub with_restarted_count_in : ConnectionStage → ℕ → ℕ → Activity → Activity
 with_restarted_count_in Idle idle_timeout_s now activity = activity
 with_restarted_count_in Head idle_timeout_s now activity = activity
@@ -54,5 +56,6 @@ with_restarted_count_in Writing idle_timeout_s now activity = activity
 with_restarted_count_in Responding idle_timeout_s now activity = with_zeroed_bytes idle_timeout_s now activity
 with_restarted_count_in Lingering idle_timeout_s now activity = activity
 
+-- the activity with its byte count restarted, by its stage
 abbrev pub with_restarted_count : ℕ → ℕ → Activity → Activity
 with_restarted_count idle_timeout_s now activity = with_restarted_count_in activity.stage idle_timeout_s now activity

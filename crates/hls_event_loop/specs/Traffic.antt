@@ -9,19 +9,19 @@ pub record Traffic : Type 0 where
   pub ended : Bool
   pub sent : List ℕ
 
--- nothing was received or sent
+-- the traffic of a turn in which nothing was received or sent
 abbrev pub no_traffic : Traffic
 no_traffic = record { received = []; ended = false; sent = [] }
 
--- one read of these bytes; no byte means the input's end
+-- the traffic of one read of these bytes; no byte means the input's end
 abbrev pub received_bytes : List ℕ → Traffic
 received_bytes bytes = record { received = bytes; ended = length bytes == 0; sent = [] }
 
--- these bytes were sent
+-- the traffic of sending these bytes
 abbrev pub sent_bytes : List ℕ → Traffic
 sent_bytes bytes = record { received = []; ended = false; sent = bytes }
 
--- one and then the other
+-- the traffic of two turns in a row
 abbrev pub followed_by : Traffic → Traffic → Traffic
 followed_by s t = record { received = s.received ++ t.received; ended = s.ended || t.ended; sent = s.sent ++ t.sent }
 
@@ -39,6 +39,6 @@ pub record ServesExactly {H V : Type 0} (becomes : H → V → Traffic → H →
   pub becomes_is : becomes a u traffic b v
   pub matches : MatchesStreams traffic remaining left contents_before contents_after
 
--- the same, over a socket
+-- the handler served the connection over a socket, whose reader and writer gave and took exactly its traffic
 abbrev pub ServesOver : {H V R W : Type 0} → (R → Option (List ℕ)) → (W → Option (List ℕ)) → (H → V → Traffic → H → V → Type 0) → H → V → Socket R W → H → V → Socket R W → Type 0
 ServesOver remaining contents becomes a u s b v t = ServesExactly becomes a u b v (remaining s.input.reader) (remaining t.input.reader) (contents s.output.writer) (contents t.output.writer)

@@ -17,15 +17,17 @@ cut (x ∷ a) b (y ∷ c) d e h =
     let w = cut a b c d rest (omega arith) in
     (w.0, cc (w.1), w.2)
 
+-- one step is a sequence of steps
 pub run_one : (b next : BodyFraming) (input piece rest : List ℕ) → Steps b input piece next rest → StepsThrough b input piece next rest
 run_one b next input piece rest s = subst (λ (t : List ℕ). StepsThrough b input t next rest) (append-nil piece) (StepThen piece s NoStep)
 
 -- ---- what is taken is a body
 
+-- five joined texts, regrouped: the first three, then the fourth, then the fifth
 regroup : (a b c d e : List ℕ) → a ++ (b ++ (c ++ (d ++ e))) ≡ ((a ++ (b ++ c)) ++ d) ++ e
 regroup a b c d e = simp append_assoc
 
--- a size line, and then the trailers or a chunk
+-- a size line, and then the trailers or the rest of a chunked body, are a chunked body
 line_body : (size : ℕ) (input rest content end : List ℕ) → ReadsLine input size rest → IsBody (framing_after_size size) rest content end → ReadsChunked input content end
 line_body zero input rest content end l body = record {
   chunks = [];
@@ -51,6 +53,7 @@ line_body (suc n) input rest content end l body = record {
   content_is = body.content_is ∙ ap (λ xs. body.bytes ++ xs) body.chunks.content_is;
 }
 
+-- a step before the rest of a body gives a body whose content begins with the step's piece
 step_body : (b next : BodyFraming) (input piece rest content end : List ℕ) → Steps b input piece next rest → IsBody next rest content end → IsBody b input (piece ++ content) end
 step_body (Length n) next input piece rest content end s body =
     let h = subst (λ (b : BodyFraming). IsBody b rest content end) s.2 body in
@@ -82,6 +85,7 @@ step_body Trailers next input piece rest content end s body =
     let empty = nil_from_length content h.1 in
     (ap (λ xs. xs ++ content) s.1 ∙ empty, subst (λ (xs : List ℕ). ReadsTrailers input xs) (h.0 ∙ ap (λ xs. xs ++ end) empty) s.0)
 
+-- steps to the end of a body take a body of the grammar
 pub body_taken : (b : BodyFraming) (input content rest : List ℕ) → StepsThrough b input content (Length 0) rest → IsBody b input content rest
 body_taken b input content rest NoStep = (refl, refl)
 body_taken b input content rest (StepThen {next = next} {middle = middle} {more = more} piece s r) =
@@ -89,16 +93,18 @@ body_taken b input content rest (StepThen {next = next} {middle = middle} {more 
 
 -- ---- a body can be taken in steps
 
--- a chunk's size is the number of its bytes, and at least one
+-- a size above 0 announces this number of bytes of data
 sized : (n : ℕ) → 0 < n → Data n ≡ framing_after_size n
 sized zero h = absurd (omega arith)
 sized (suc n) h = refl
 
+-- a chunk's bytes and the CR LF after them can be taken before the steps of what follows
 data_taken : (bytes middle more rest : List ℕ) → StepsThrough Size middle more (Length 0) rest → StepsThrough (Data (length bytes)) (bytes ++ 13 ∷ 10 ∷ middle) (bytes ++ more) (Length 0) rest
 data_taken [] middle more rest r = StepThen [] (inr (refl, refl, refl, refl)) r
 data_taken (x ∷ bytes) middle more rest r =
     StepThen (x ∷ bytes) (inl (0, record { whole = refl; some = omega arith; count = omega arith }, refl)) (StepThen [] (inr (refl, refl, refl, refl)) r)
 
+-- chunks, the last chunk's size line and the trailers can be taken in steps to the body's end
 chunks_taken : (chunks : List Chunk) (last : ChunkLine) (after rest : List ℕ) → AreChunks chunks → IsLine last → 0 ≡ chunk_size last → ReadsTrailers after rest
     → StepsThrough Size (flat_map print_chunk chunks ++ (print_chunk_line last ++ after)) (flat_map chunk_bytes chunks) (Length 0) rest
 chunks_taken [] last after rest each good size trailers =
@@ -112,31 +118,36 @@ chunks_taken (chunk ∷ chunks) last after rest (is, each) good size trailers =
     let others = chunks_taken chunks last after rest each good size trailers in
     StepThen [] (length chunk.bytes, line, refl, sized (length chunk.bytes) is.some) (data_taken chunk.bytes following (flat_map chunk_bytes chunks) rest others)
 
+-- a chunked body can be taken in steps to its end
 chunked_taken : (input content rest : List ℕ) → ReadsChunked input content rest → StepsThrough Size input content (Length 0) rest
 chunked_taken input content rest h = rw (h.whole, h.content_is) (chunks_taken h.chunks h.last h.after rest h.each h.last_line (sym h.last_size) h.trailers)
 
+-- a body by length can be taken in one step, or in none if it is empty
 length_taken : (n : ℕ) (content rest : List ℕ) → length content ≡ n → StepsThrough (Length n) (content ++ rest) content (Length 0) rest
 length_taken n [] rest count = subst (λ (m : ℕ). StepsThrough (Length m) rest [] (Length 0) rest) count NoStep
 length_taken n (x ∷ content) rest count =
     run_one (Length n) (Length 0) (x ∷ content ++ rest) (x ∷ content) rest (0, record { whole = refl; some = omega arith; count = omega (arith, count) }, refl)
 
+-- each body of the grammar can be taken in steps to its end
 pub taken_body : (b : BodyFraming) (input content rest : List ℕ) → IsBody b input content rest → StepsThrough b input content (Length 0) rest
 taken_body (Length n) input content rest h = rw h.0 (length_taken n content rest h.1)
 taken_body Size input content rest h = chunked_taken input content rest h
 taken_body (Data n) input content rest h = rw (h.whole, h.content_is, ← h.count) (data_taken h.bytes h.middle h.more rest (chunked_taken h.middle h.more rest h.chunks))
 taken_body Trailers input content rest h = rw h.0 (run_one Trailers (Length 0) input [] rest (h.1, refl, refl))
 
+-- the bodies that can be taken in steps to their end are exactly those of the grammar
 pub body_by_steps : BodiesMatchGrammar
 body_by_steps b input content rest = (body_taken b input content rest, taken_body b input content rest)
 
 -- ---- a step of a text that begins with a body is a step of that body
 
+-- a body's content begins with this piece, and the text after the piece begins with the rest of the body
 pub record LeftOf (next : BodyFraming) (piece content middle rest : List ℕ) : Type 0 where
   pub more : List ℕ
   pub split : content ≡ piece ++ more
   pub body : IsBody next middle more rest
 
--- the line just read is the first
+-- if a chunked body begins with a size line, the rest of the body follows that line
 line_left : (next : BodyFraming) (input piece middle content rest : List ℕ) → Steps Size input piece next middle → StepsThrough Size input content (Length 0) rest → LeftOf next piece content middle rest
 line_left next input piece middle content rest s (StepThen {next = first} {middle = following} {more = more} none t r) =
     let same = chunk_line_unique input s.1.line t.1.line middle following s.1.reads t.1.reads in
@@ -144,6 +155,7 @@ line_left next input piece middle content rest s (StepThen {next = first} {middl
     let body = subst (λ (b : BodyFraming). IsBody b following more rest) next_is (body_taken first following more rest r) in
     record { more = more; split = ap (λ xs. xs ++ more) (t.2 ∙ sym s.2); body = subst (λ (m : List ℕ). IsBody next m more rest) (sym same.1) body }
 
+-- after a step of a text that begins with a body, the rest of that body follows
 pub step_left : (b next : BodyFraming) (input piece middle content rest : List ℕ) → Steps b input piece next middle → IsBody b input content rest → LeftOf next piece content middle rest
 step_left (Length n) next input piece middle content rest s h =
     let w = cut piece middle content rest (sym s.1.whole ∙ h.0) (omega (arith, s.1.count, h.1)) in
@@ -178,6 +190,7 @@ step_left Trailers next input piece middle content rest s h =
     let body : IsBody (Length 0) middle [] rest = (same.2, refl) in
     record { more = []; split = h.0 ∙ sym (ap (λ xs. xs ++ []) s.1); body = subst (λ (b : BodyFraming). IsBody b middle [] rest) (sym s.2) body }
 
+-- after steps of a text that begins with a body, the rest of that body follows
 pub run_left : (b last : BodyFraming) (input got middle content rest : List ℕ) → StepsThrough b input got last middle → IsBody b input content rest → LeftOf last got content middle rest
 run_left b last input got middle content rest NoStep h = record { more = content; split = refl; body = h }
 run_left b last input got middle content rest (StepThen {next = next} {middle = following} {more = more} piece s r) h =
@@ -185,6 +198,7 @@ run_left b last input got middle content rest (StepThen {next = next} {middle = 
     let all = run_left next last following more middle one.more rest r one.body in
     record { more = all.more; split = one.split ∙ ap (λ xs. piece ++ xs) all.split ∙ sym (append_assoc piece more all.more); body = all.body }
 
+-- a text begins with at most one body
 pub body_one : BodiesAreUnique
 body_one b input content rest other after x y =
     let w = run_left b (Length 0) input content rest other after (taken_body b input content rest x) y in
@@ -193,16 +207,19 @@ body_one b input content rest other after x y =
 
 -- ---- where no step is possible there is no body
 
+-- if no step is possible, a sequence of steps is empty
 no_first : (b last : BodyFraming) (input content rest : List ℕ) → ((piece : List ℕ) (next : BodyFraming) (middle : List ℕ) → Steps b input piece next middle → ⊥)
     → StepsThrough b input content last rest → b ≡ last
 no_first b last input content rest never NoStep = refl
 no_first b last input content rest never (StepThen {next = next} {middle = middle} piece s r) = absurd (never piece next middle s)
 
+-- a text that breaks the grammar begins with no body, whatever follows
 pub broken_body : (b : BodyFraming) (held more content rest : List ℕ) → IsBroken b held → IsBody b (held ++ more) content rest → ⊥
 broken_body (Length n) held more content rest broken h = broken
 broken_body b held more content rest broken h =
     let over = no_first b (Length 0) (held ++ more) content rest (broken more) (taken_body b (held ++ more) content rest h) in cc over
 
+-- a text that ends before a step begins with no body
 pub open_body : (b : BodyFraming) (later content rest : List ℕ) → IsOpen b later → IsBody b later content rest → ⊥
 open_body (Length n) later content rest s h = absurd (omega (arith, ap length h.0, s.0, h.1, ap length s.1, length-append content rest))
 open_body Size later content rest s h =
@@ -214,32 +231,38 @@ open_body Trailers later content rest s h = s.1 h.1.fields h.1.last rest h.1.rea
 
 -- ---- what a run leaves of a body
 
+-- a printed size line isn't empty
 pub some_line : (line : ChunkLine) → 0 < length (print_chunk_line line)
 unfolding print_chunk_line
 some_line line = omega (arith, length-append {A = ℕ})
 
+-- printed trailers aren't empty
 pub some_section : (fields : List Field) (last : LineEnd) → 0 < length (print_section fields last)
 some_section fields crlf = omega (arith, length-append (flat_map print_field fields) (13 ∷ 10 ∷ []))
 some_section fields lf = omega (arith, length-append (flat_map print_field fields) (10 ∷ []))
 
--- a body by length leaves the bytes that were not taken; a chunked body never leaves bytes by length
+-- the framing isn't that of one or more bytes by length
 abbrev IsOfChunks : BodyFraming → Type 0
 IsOfChunks last = (n : ℕ) → last ≡ Length (suc n) → ⊥
 
+-- after `taken` bytes of a body by length, the other bytes are left by length; a chunked body never leaves bytes by length
 abbrev pub Leaves : BodyFraming → ℕ → BodyFraming → Type 0
 Leaves (Length n) taken last = (left : ℕ) × (last ≡ Length left) × (taken + left ≡ n)
 Leaves _ taken last = IsOfChunks last
 
+-- if nothing is taken, the whole body is left
 leaves_none : (b : BodyFraming) → Leaves b 0 b
 leaves_none (Length n) = (n, refl, omega arith)
 leaves_none Size = λ n is. cc
 leaves_none (Data m) = λ n is. cc
 leaves_none Trailers = λ n is. cc
 
+-- after a chunk's size line, no bytes are left by length
 behind_line : (size taken : ℕ) (last : BodyFraming) → Leaves (framing_after_size size) taken last → IsOfChunks last
 behind_line zero taken last l = l
 behind_line (suc n) taken last l = l
 
+-- if the body after a step leaves something, the body before the step leaves the same, with the step's bytes counted as taken
 step_leaves : (b next last : BodyFraming) (input piece rest : List ℕ) (taken : ℕ) → Steps b input piece next rest → Leaves next taken last → Leaves b (length piece + taken) last
 step_leaves (Length n) next last input piece rest taken s l =
     let there = subst (λ (x : BodyFraming). Leaves x taken last) s.2 l in (there.0, there.1, omega (arith, s.1.count, there.2))
@@ -250,6 +273,7 @@ step_leaves Trailers next last input piece rest taken s l = λ n is.
     let there = subst (λ (x : BodyFraming). Leaves x taken last) s.2 l in
     let left : there.0 ≡ suc n = cc (there.1, is) in absurd (omega (arith, left, there.2))
 
+-- what steps leave of a body fits the number of bytes that they took
 pub runs_leave : (b last : BodyFraming) (input content rest : List ℕ) → StepsThrough b input content last rest → Leaves b (length content) last
 runs_leave b last input content rest NoStep = leaves_none b
 runs_leave b last input content rest (StepThen {next = next} {middle = middle} {more = more} piece s r) =

@@ -1,3 +1,4 @@
+-- The lemmas on HTTP/1.1 messages: heads, chunked bodies, fields and their values, and the buffers that hold input and output.
 mod BodySteps
 mod Buffers
 mod Digits

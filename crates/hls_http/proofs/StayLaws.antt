@@ -11,6 +11,7 @@ use Rattle.hls_http.specs.Bodies.{IsPiece, ReadsLine, Steps, StepsThrough, NoSte
 
 -- ---- what was read
 
+-- a piece of the next n bytes is the same if more follows; the same for a size line, and then for any step
 piece_stays : (n : ℕ) (input piece : List ℕ) (left : ℕ) (rest more : List ℕ) → IsPiece n input piece left rest → IsPiece n (input ++ more) piece left (rest ++ more)
 piece_stays n input piece left rest more x = record { whole = front-append input piece rest more x.whole; some = x.some; count = x.count }
 
@@ -28,6 +29,7 @@ step_stays Trailers next input piece rest more (x, none, next_is) = (
   next_is,
 )
 
+-- a head, a part of a body, a whole body, a request, and a list of requests stay the same if more follows
 pub heads_stay : HeadsStay
 heads_stay text h rest more x = record { reads = ReadsRequest-append text h rest more x.reads; small = x.small }
 
@@ -57,6 +59,7 @@ pub ruleset fronts_stay = (heads_stay, runs_stay, bodies_stay, requests_stay, st
 
 -- ---- what is refused
 
+-- what is refused of a text is still refused if more follows: a bad head, one above the limits, bad fields, a broken body
 pub bad_heads_stay : BadHeadsStay
 bad_heads_stay text more never = λ later h rest r. never (more ++ later) h rest (subst (λ (t : List ℕ). ReadsRequest t h rest) (append_assoc text more later) r)
 
@@ -79,6 +82,7 @@ broken_bodies_stay b held more broken = λ later piece next rest s.
 
 -- ---- what follows
 
+-- two consecutive parts of a body are one part
 pub runs_join : RunsJoin
 runs_join a b c input first middle second rest NoStep y = y
 runs_join a b c input first middle second rest (StepThen {next = next} {middle = following} {more = more} piece s r) y =
@@ -91,13 +95,16 @@ pub record StepsTwice (b next : BodyFraming) (input first m rest : List ℕ) : T
   pub front : Steps b input first middle (m ++ rest)
   pub following : Steps middle (m ++ rest) m next rest
 
+-- an empty text doesn't begin with a text that isn't empty
 no_piece : (first m : List ℕ) → first ++ m ≡ [] → 0 < length first → ⊥
 no_piece first m none some = absurd (omega (arith, ap length none, some, length-append first m))
 
+-- a non-empty front of a piece is a piece itself, which leaves as many more bytes as the piece is longer
 piece_front : (n : ℕ) (input first m : List ℕ) (left : ℕ) (rest : List ℕ) → 0 < length first → IsPiece n input (first ++ m) left rest → IsPiece n input first (length m + left) (m ++ rest)
 piece_front n input first m left rest some x =
     record { whole = x.whole ∙ append_assoc first m rest; some = some; count = omega (arith, x.count, length-append first m) }
 
+-- a step whose content is two non-empty texts can be taken as two steps, one for each text
 step_twice : (b next : BodyFraming) (input first m rest : List ℕ) → 0 < length first → 0 < length m → Steps b input (first ++ m) next rest → StepsTwice b next input first m rest
 step_twice (Length n) next input first m rest some more s = record {
   middle = Length (length m + s.0);
@@ -113,6 +120,7 @@ step_twice (Data n) next input first m rest some more (inl s) = record {
 step_twice (Data n) next input first m rest some more (inr s) = absurd (no_piece first m s.2 some)
 step_twice Trailers next input first m rest some more s = absurd (no_piece first m s.1 some)
 
+-- the steps of a content that is two texts can be taken as steps for the first text, then for the second
 split_at : (b last : BodyFraming) (input content first second rest : List ℕ) → content ≡ first ++ second → StepsThrough b input content last rest → SplitsAt b last input first second rest
 split_at b last input content [] second rest is r = record { middle = b; later = input; front = NoStep; following = subst (λ (t : List ℕ). StepsThrough b input t last rest) is r }
 split_at b last input content (x ∷ first) second rest is NoStep = absurd (cc is)
@@ -131,9 +139,11 @@ split_at b last input content (x ∷ first) second rest is (StepThen {next = nex
           record { middle = v.middle; later = v.later; front = front; following = v.following }
     ]
 
+-- a part of a body whose content is two texts is a part with the first text, then one with the second
 pub runs_split : RunsSplit
 runs_split b last input first second rest r = split_at b last input (first ++ second) first second rest refl r
 
+-- requests followed by further requests are one list of requests
 pub streams_join : StreamsJoin
 streams_join text middle rest [] qs x y = subst (λ (t : List ℕ). AreRequestsThenRest t qs rest) x y
 streams_join text middle rest (r ∷ rs) qs x y = (x.0, x.1, streams_join x.0 middle rest rs qs x.2 y)
@@ -142,25 +152,30 @@ pub ruleset fronts_join = (runs_join, runs_split, streams_join)
 
 -- ---- what can't be there
 
+-- a text begins with at most one head, and with at most one request
 pub heads_one : HeadsAreUnique
 heads_one text h k rest after x y = request_unique text h k rest after x.reads y.reads
 
 pub requests_one : RequestsAreUnique
 requests_one text r q rest after x y = one_left text rest after r q x y
 
+-- if the grammar is broken after a part of a body, there is no whole body, whatever follows
 pub broken_bodies : BrokenBodiesNeverEnd
 broken_bodies b last input got held more content rest r broken x =
     let w = run_left b last (input ++ more) got (held ++ more) content rest (runs_stay b input got last held more r) x in
     broken_body last held more w.more rest broken w.body
 
+-- if the text ends within a body, it begins with no whole body
 pub open_bodies : OpenBodiesNeverEnd
 open_bodies b last input got held content rest r ended x =
     let w = run_left b last input got held content rest r x in open_body last held w.more rest ended w.body
 
+-- the content after a size line has at least the bytes that the line announces
 behind_size : (size : ℕ) (input content rest : List ℕ) → IsBody (framing_after_size size) input content rest → size ≤ length content
 behind_size zero input content rest x = omega arith
 behind_size (suc n) input content rest x = omega (arith, x.count, ap length x.content_is, length-append x.bytes x.more)
 
+-- a body's content has at least the bytes taken so far and those that the next size line announces
 pub sizes_count : ContentCoversSize
 sizes_count b input got held following more content rest size r line x =
     let w = run_left b Size (input ++ more) got (held ++ more) content rest (runs_stay b input got Size held more r) x in

@@ -6,6 +6,7 @@ use Rattle.hls_http.specs.declared.{framing.BodyFraming.TheVariants.{Length, Dat
 use Rattle.hls_http.specs.{declared.request_action.RequestAction.TheVariants.{Refuse, Ingest, Discard}, Fields.{closes_connection, expects}}
 use Rattle.hls_http.specs.Requests.{fields_of}
 
+-- nothing of the body is left to read: a length of 0
 abbrev pub is_over : BodyFraming → Bool
 is_over (Length n) = nat_eq n 0
 is_over _ = false
@@ -20,19 +21,20 @@ announced_len _ = 0
 abbrev pub exceeds_discard_limit : BodyFraming → Bool
 exceeds_discard_limit body = nat_lt discard_limit (announced_len body)
 
--- by the body's framing or the fault of the fields, whether the path is known, and whether the body is ingested in parts
+-- the action for a request, by its framing or its fields' fault, whether its path is known, and whether its body is ingested in parts
 abbrev pub action_by : Result BodyFraming HttpFault → Bool → Bool → RequestAction
 action_by (Err fault) known ingests = Refuse fault true
 action_by (Ok body) false ingests = Refuse NotFound (not (is_over body))
 action_by (Ok body) true true = Ingest body
 action_by (Ok body) true false = cond (exceeds_discard_limit body) (Refuse TooLarge true) (Discard body)
 
--- 100 Continue is sent before a body that will be read, unless the body is empty
+-- the action reads a body that isn't empty
 abbrev pub reads_body : RequestAction → Bool
 reads_body (Refuse fault closing) = false
 reads_body (Ingest body) = not (is_over body)
 reads_body (Discard body) = not (is_over body)
 
+-- 100 Continue is sent if the client expects it and the action reads a body that isn't empty
 abbrev pub sends_continue : RequestHead → RequestAction → Bool
 sends_continue head action = expects head.minor (fields_of head) && reads_body action
 

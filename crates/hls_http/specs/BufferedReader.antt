@@ -11,12 +11,15 @@ unread_of source = source.input.unread
 abbrev pub taken_of : {R : Type 0} → BufferedReader R → List ℕ
 taken_of source = source.input.taken
 
+-- the reader inside a source
 abbrev pub reader_of : {R : Type 0} → BufferedReader R → R
 reader_of source = inner_of source.reader
 
+-- how many reads of a source have failed so far
 abbrev pub read_failures : {R : Type 0} → BufferedReader R → ℕ
 read_failures source = failures_of source.reader
 
+-- how many more reads a source may make
 abbrev pub reads_left : {R : Type 0} → BufferedReader R → ℕ
 reads_left source = calls_left source.reader
 

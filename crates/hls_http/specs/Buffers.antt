@@ -1,6 +1,7 @@
 -- The contents of an input buffer.
 use Rattle.std.specs.Prelude.{ℕ, List, [], take, drop}
 
+-- the bytes that an input buffer holds: those taken last and those still unread
 pub record BufferTexts : Type 0 where
   -- bytes that were taken last
   pub taken : List ℕ
@@ -9,6 +10,7 @@ pub record BufferTexts : Type 0 where
   -- how many bytes may be unread before the buffer must allocate
   pub room : ℕ
 
+-- an empty buffer with this room in bytes
 abbrev pub no_texts : ℕ → BufferTexts
 no_texts room = record { taken = []; unread = []; room = room }
 

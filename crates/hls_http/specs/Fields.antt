@@ -8,7 +8,7 @@ use Rattle.hls_http.specs.Limits.{length_digits}
 abbrev pub Fields : Type 0
 Fields = List (List ℕ × List ℕ)
 
--- a field of this name, in any case (RFC 9110, section 5.1)
+-- a field has this name, in any case (RFC 9110, section 5.1)
 abbrev pub has_name : List ℕ → List ℕ × List ℕ → Bool
 has_name name field = str_eq_ignore_ascii_case field.0 name
 
@@ -21,18 +21,19 @@ values name (field ∷ fields) = cond (has_name name field) (field.1 ∷ values 
 abbrev pub length_of : List ℕ → Option ℕ
 length_of value = number_of_digits length_digits value
 
--- the pieces between the commas
+-- the pieces of a list between its commas
 abbrev pub between_commas : List ℕ → List (List ℕ)
 between_commas bytes = slice_split (λ b. b == 44) bytes
 
--- the text without the blanks at both ends
+-- a text without the blanks at its start
 abbrev pub trim_front : List ℕ → List ℕ
 trim_front text = drop (prefix_len is_ascii_whitespace text) text
 
+-- a text without the blanks at both ends
 abbrev pub trim : List ℕ → List ℕ
 trim text = take (length (trim_front text) - suffix_len is_ascii_whitespace (trim_front text)) (trim_front text)
 
--- this token, in any case, with or without blanks around it
+-- a piece is this token, in any case, with or without blanks around it
 abbrev pub is_word : List ℕ → List ℕ → Bool
 is_word word piece = str_eq_ignore_ascii_case (trim piece) word
 
@@ -44,10 +45,11 @@ has_word word value = list_any (is_word word) (between_commas value)
 abbrev pub closes_connection : ℕ → Fields → Bool
 closes_connection minor fields = nat_eq minor 0 || list_any (has_word (codes "close")) (values (codes "connection") fields)
 
--- the client waits for 100 Continue (RFC 9110, section 10.1.1); in HTTP/1.0 the field is ignored
+-- a value of Expect: the client waits for 100 Continue (RFC 9110, section 10.1.1)
 abbrev pub expects_continue : List ℕ → Bool
 expects_continue value = str_eq_ignore_ascii_case value (codes "100-continue")
 
+-- an HTTP/1.1 client waits for 100 Continue before it sends the body
 abbrev pub expects : ℕ → Fields → Bool
 expects minor fields = nat_eq minor 1 && list_any expects_continue (values (codes "expect") fields)
 
@@ -55,7 +57,7 @@ expects minor fields = nat_eq minor 1 && list_any expects_continue (values (code
 unfoldable pub wait_of_value : List ℕ → Option ℕ
 wait_of_value value = cond (bytes_eq (take 5 value) (codes "wait=")) (number_of_digits length_digits (drop 5 value)) None
 
--- several Prefer fields are ignored
+-- the seconds that the Prefer fields let the response wait; several fields are ignored
 abbrev pub wait_of_values : List (List ℕ) → Option ℕ
 wait_of_values [] = None
 wait_of_values (value ∷ []) = wait_of_value value

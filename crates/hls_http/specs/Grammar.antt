@@ -9,6 +9,7 @@ pub record Chunk : Type 0 where
   pub line : ChunkLine
   pub bytes : List ℕ
 
+-- the content of a chunk
 abbrev pub chunk_bytes : Chunk → List ℕ
 chunk_bytes chunk = chunk.bytes
 
@@ -16,7 +17,7 @@ chunk_bytes chunk = chunk.bytes
 abbrev pub print_chunk : Chunk → List ℕ
 print_chunk chunk = print_chunk_line chunk.line ++ (chunk.bytes ++ 13 ∷ 10 ∷ [])
 
--- a line of the grammar, within the limit
+-- a size line of the grammar, within the limit
 pub record IsLine (line : ChunkLine) : Type 0 where
   pub good : IsChunkLine line
   pub small : length (print_chunk_line line) ≤ head_limit
@@ -27,6 +28,7 @@ pub record IsChunk (chunk : Chunk) : Type 0 where
   pub some : 0 < length chunk.bytes
   pub size : length chunk.bytes ≡ chunk_size chunk.line
 
+-- each of them is a chunk other than the last
 abbrev pub AreChunks : List Chunk → Type 0
 AreChunks [] = Unit {0}
 AreChunks (chunk ∷ chunks) = IsChunk chunk × AreChunks chunks
@@ -43,7 +45,7 @@ pub record ReadsChunked (input content rest : List ℕ) : Type 0 where
   pub trailers : ReadsTrailers after rest
   pub content_is : content ≡ flat_map chunk_bytes chunks
 
--- the rest of a chunk, and then chunks
+-- the text begins with n bytes, the rest of a chunk, and then CR LF and chunks
 pub record ReadsRestOfChunk (n : ℕ) (input content rest : List ℕ) : Type 0 where
   pub bytes : List ℕ
   pub more : List ℕ

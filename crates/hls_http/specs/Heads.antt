@@ -13,7 +13,7 @@ pub record ReadsLimitedHead (text : List ℕ) (h : RequestHead) (rest : List ℕ
   pub reads : ReadsRequest text h rest
   pub small : IsSmall h
 
--- a prefix of a head, below the limit
+-- the text is below the limit and may become a head, but isn't one yet
 pub record IsUnfinished (text : List ℕ) : Type 0 where
   pub short : length text < head_limit
   pub none : HasNoRequest text

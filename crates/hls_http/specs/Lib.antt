@@ -1,3 +1,4 @@
+-- What HTTP/1.1 requests are as text: heads, fields, framing, bodies, queries and ranges; and how they are read and responses are written.
 pub mod ReadBodies
 pub mod ReadHeads
 pub mod Input

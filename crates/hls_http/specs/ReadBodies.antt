@@ -13,11 +13,12 @@ use Rattle.hls_http.specs.declared.body_tokens.BodyToken.TheVariants as tokens
 abbrev pub IsLastAlone : BodyFraming → BodyFraming → Type 0
 IsLastAlone b next = next ≡ Length 0 → b ≡ Length 1
 
--- the token's length in held bytes, and the framing of the rest of the body
+-- the token is at the front of the held bytes, with this length and this framing of the rest of the body
 abbrev pub IsToken : BodyFraming → List ℕ → BodyToken → Type 0
 IsToken b held (tokens.Piece len next) = (0 < len) × (len ≤ length held) × Steps b held (take len held) next (drop len held) × IsLastAlone b next
 IsToken b held (tokens.Frame len next) = (0 < len) × (len ≤ length held) × Steps b held [] next (drop len held)
 
+-- the token at the front of the held bytes; or more bytes are needed; or the body is broken
 abbrev pub FindsToken : BodyFraming → List ℕ → Result BodyToken TokenFault → Type 0
 FindsToken b held (Ok found) = IsToken b held found
 FindsToken b held (Err Incomplete) = (length held < 16384) × IsOpen b held
@@ -35,6 +36,7 @@ ReadsPiece b input last taken held left (Ok Piece) = (0 < length taken) × RunsO
 ReadsPiece b input last taken held left (Ok End) = (last ≡ Length 0) × RunsOnReader b input [] last held left
 ReadsPiece b input last taken held left (Err end) = RunsOnReader b input [] last held left × IsBodyEnd last held left end
 
+-- a body that ends with ReadFailed raises the number of failures; any other outcome leaves it
 abbrev pub CountsBody : Result BodyRead BodyEnd → ℕ → ℕ → Type 0
 CountsBody (Err ReadFailed) old new = FailuresRose old new
 CountsBody _ old new = new ≡ old

@@ -21,7 +21,7 @@ pub record IsHead (h : RequestHead) (head : ParsedHead) (text : List ℕ) : Type
   pub range : head.range ≡ range_of_values (values (codes "range") (fields_of h))
   pub wait : head.wait ≡ wait_of_values (values (codes "prefer") (fields_of h))
 
--- a head, and the bytes kept of it
+-- the text begins with a head within the limits, which the parsed head describes by the bytes kept of it
 pub record FoundHead (text : List ℕ) (head : ParsedHead) (taken rest : List ℕ) : Type 0 where
   pub tree : RequestHead
   pub reads : ReadsLimitedHead text tree rest
@@ -49,6 +49,7 @@ ReadsHead input taken held left (Err BadHead) = (prepend_known held left ≡ Som
 ReadsHead input taken held left (Err HeadTooLarge) = (prepend_known held left ≡ Some input) × IsTooLarge held
 ReadsHead input taken held left (Err ReadFailed) = (prepend_known held left ≡ Some input) × IsUnfinished held
 
+-- a head that ends with ReadFailed raises the number of failures; any other outcome leaves it
 abbrev pub CountsHead : Result ParsedHead HeadEnd → ℕ → ℕ → Type 0
 CountsHead (Err ReadFailed) old new = FailuresRose old new
 CountsHead _ old new = new ≡ old

@@ -31,7 +31,7 @@ abbrev pub AreRequestsThenRest : List ℕ → List HttpRequest → List ℕ → 
 AreRequestsThenRest text [] rest = rest ≡ text
 AreRequestsThenRest text (r ∷ rs) rest = (middle : List ℕ) × ReadsWholeRequest text r middle × AreRequestsThenRest middle rs rest
 
--- a head and a part of its body, and what stops it there
+-- the text is a head and a part of its body, and stops there in this way
 pub record StopsInBody (text : List ℕ) (Stops : BodyFraming → List ℕ → Type 0) : Type 0 where
   pub head : RequestHead
   pub body : BodyFraming
@@ -44,7 +44,7 @@ pub record StopsInBody (text : List ℕ) (Stops : BodyFraming → List ℕ → T
   pub runs : StepsThrough body middle content last later
   pub stops : Stops last later
 
--- a head whose Host or framing is bad
+-- the text begins with a head whose Host or framing is bad
 pub record HasBadFields (text : List ℕ) : Type 0 where
   pub head : RequestHead
   pub fault : HttpFault

@@ -23,12 +23,15 @@ fault_row faults.Conflict = (Conflict, codes "Conflict")
 fault_row faults.Memory = (Unavailable, codes "Memory")
 fault_row faults.Full = (InsufficientStorage, codes "Full")
 
+-- the status of the reply to a fault
 abbrev pub fault_status : HttpFault → Status
 fault_status fault = (fault_row fault).0
 
+-- a fault's name as replies print it
 abbrev pub fault_name : HttpFault → List ℕ
 fault_name fault = (fault_row fault).1
 
+-- CR LF, which ends a line of a head
 abbrev pub crlf : List ℕ
 crlf = 13 ∷ 10 ∷ []
 
@@ -49,6 +52,7 @@ status_line HeadTooLarge = codes "HTTP/1.1 431 Request Header Fields Too Large" 
 status_line Unavailable = codes "HTTP/1.1 503 Service Unavailable" ++ crlf
 status_line InsufficientStorage = codes "HTTP/1.1 507 Insufficient Storage" ++ crlf
 
+-- the media type of a reply's body
 abbrev pub kind_name : ContentType → List ℕ
 kind_name Text = codes "text/plain"
 kind_name Media = codes "video/mp4"
@@ -67,14 +71,16 @@ is_success NoContent = true
 is_success PartialContent = true
 is_success _ = false
 
+-- the Content-Type line
 abbrev pub type_line : ContentType → List ℕ
 type_line kind = codes "Content-Type: " ++ (kind_name kind ++ crlf)
 
+-- Content-Type and Content-Length of a body of `len` bytes; a 204 has neither
 abbrev pub content_lines : Status → ContentType → ℕ → List ℕ
 content_lines status kind len =
     cond (has_content status) (type_line kind ++ (codes "Content-Length: " ++ (decimal len ++ crlf))) []
 
--- a reply has at most one of Content-Range, Location, Allow and Retry-After
+-- the line of a reply's extra field: at most one of Content-Range, Location, Allow and Retry-After
 abbrev pub extra_line : ExtraField → List ℕ
 extra_line Nothing = []
 extra_line (Range first last total) =
@@ -84,20 +90,23 @@ extra_line (Job id) = codes "Location: /job/" ++ (decimal id ++ crlf)
 extra_line (Allow methods) = codes "Allow: " ++ (methods.now ++ crlf)
 extra_line (Retry seconds) = codes "Retry-After: " ++ (decimal seconds ++ crlf)
 
+-- Cache-Control with these directives, and Access-Control-Allow-Origin for every origin
 abbrev pub policy_line : List ℕ → List ℕ
 policy_line directives = codes "Cache-Control: " ++ (directives ++ (crlf ++ (codes "Access-Control-Allow-Origin: *" ++ crlf)))
 
--- Cache-Control (RFC 9111, section 5.2.2), and that pages of any origin may read the reply
+-- the lines of a cache policy: Cache-Control (RFC 9111, section 5.2.2), and that pages of any origin may read the reply
 abbrev pub policy_lines : CachePolicy → List ℕ
 policy_lines Unstated = []
 policy_lines Immutable = policy_line (codes "public, max-age=86400, immutable")
 policy_lines Brief = policy_line (codes "max-age=1")
 policy_lines Revalidate = policy_line (codes "no-cache")
 
+-- Connection: close, if the connection ends after the reply
 abbrev pub close_line : Bool → List ℕ
 close_line closing = cond closing (codes "Connection: close" ++ crlf) []
 
--- status line, Content-Type, Content-Length, Content-Range or Location or Allow or Retry-After, Cache-Control, Connection, empty line
+-- a reply's head, with a body of `len` bytes: status line, Content-Type, Content-Length, the extra field, Cache-Control,
+-- Connection and the empty line
 abbrev pub head_text_of : ResponseParts → ℕ → List ℕ
 head_text_of head len =
     status_line head.status ++ (content_lines head.status head.kind len ++ (extra_line head.extra ++ (policy_lines head.policy ++ (close_line head.closing ++ crlf))))
@@ -110,10 +119,11 @@ response_text head body to_head = head_text_of head (length body) ++ cond to_hea
 abbrev pub refusal_body : List ℕ → List ℕ
 refusal_body name = codes "refused " ++ (name ++ 10 ∷ [])
 
--- the head of the out-of-memory reply, and the whole reply
+-- the head of the out-of-memory reply: 503, closing, with a body of 15 bytes
 unfoldable pub out_of_memory_head_text : List ℕ
 out_of_memory_head_text = head_text_of (record { status = Unavailable; kind = Text; extra = Nothing; policy = Unstated; closing = true }) 15
 
+-- the out-of-memory reply with its body, `refused Memory`
 unfoldable pub out_of_memory_text : List ℕ
 out_of_memory_text = out_of_memory_head_text ++ refusal_body (codes "Memory")
 
@@ -121,6 +131,6 @@ out_of_memory_text = out_of_memory_head_text ++ refusal_body (codes "Memory")
 abbrev pub out_of_memory_response : Bool → List ℕ
 out_of_memory_response to_head = cond to_head out_of_memory_head_text out_of_memory_text
 
--- 100 Continue (RFC 9110, section 15.2.1)
+-- the text of 100 Continue (RFC 9110, section 15.2.1)
 abbrev pub continue_text : List ℕ
 continue_text = codes "HTTP/1.1 100 Continue" ++ (crlf ++ crlf)

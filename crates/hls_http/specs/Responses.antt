@@ -18,7 +18,7 @@ WritesResponse head body to_head held contents (Err WriteFailed) =
     Writes held (response_text head body to_head) contents false ⊎ Writes held (out_of_memory_response to_head) contents false
 WritesResponse head body to_head held contents (Err end) = ⊥
 
--- a reply never ends a session with CutShort or ReadFailed
+-- a reply ends a session with neither CutShort nor ReadFailed; only WriteFailed raises the number of failures
 abbrev pub CountsResponse : Result (Unit {0}) SessionEnd → ℕ → ℕ → Type 0
 CountsResponse (Err CutShort) old new = ⊥
 CountsResponse (Err ReadFailed) old new = ⊥

@@ -5,6 +5,7 @@ use Rattle.httparse.specs.{declared.spans.HeaderSpan.HeaderSpan, Spans.header_by
 use Rattle.hls_http.specs.declared.fields.SingleField.{SingleField, TheVariants.{Missing, One, Several}}
 use Rattle.hls_http.specs.Fields.{Fields, has_name, values}
 
+-- the names and values of the fields whose places in the text are given
 abbrev pub fields_at : List ℕ → List HeaderSpan → Fields
 fields_at text headers = map (header_bytes text) headers
 
@@ -16,6 +17,7 @@ named_value name field = cond (has_name name field) (Some field.1) None
 abbrev pub values_from : List ℕ → List HeaderSpan → List ℕ → ℕ → List (List ℕ)
 values_from text headers name at = values name (fields_at text (drop at headers))
 
+-- the first value of this name among the fields from index `at` on, with the index after its field; or there is none
 abbrev pub NextValue : List ℕ → List HeaderSpan → List ℕ → ℕ → Option (ℕ × List ℕ) → Type 0
 NextValue text headers name at None = values_from text headers name at ≡ []
 NextValue text headers name at (Some (next, value)) =

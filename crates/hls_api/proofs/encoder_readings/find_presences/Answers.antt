@@ -1,3 +1,4 @@
+-- Each round adds the presence of one more rendition's encoder to those that are right.
 use Rattle.std.proofs.Common.{arith}
 use Rattle.hls_api.proofs.JumpSteps.{presences_next}
 use Rattle.hls_api.proofs.encoder_readings.find_presences.Goals as goal

@@ -1,3 +1,4 @@
+-- Before each round, the flag says whether one of the renditions so far continues over the gap.
 use Rattle.std.proofs.Common.{◌≡◌}
 use Rattle.hls_api.specs.GapLimits.{any_continues}
 use Rattle.hls_api.proofs.gap_limit.is_continued.Given as goal

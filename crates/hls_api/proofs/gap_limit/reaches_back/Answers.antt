@@ -1,3 +1,4 @@
+-- The loop ends at a unit that starts early enough, at a hole, or without more units; each case is a lemma of GapSteps.
 use Rattle.std.proofs.Common.{rules, ◌≡◌, ◌∙◌, ℕ, ◌-◌, ◌<◌, true, false, sym, ap, arith}
 use Rattle.std.specs.Prelude.{nat_le}
 use Rattle.hls_media_laws.specs.FactLists.{fact_at}

@@ -1,3 +1,4 @@
+-- The units that remain reach back if and only if the last 4096 units of the recording do.
 use Rattle.std.proofs.Common.{◌≡◌, ◌≤◌, length}
 use Rattle.hls_api.specs.GapLimits.{reaches_back}
 use Rattle.hls_api.proofs.gap_limit.reaches_back.Given as goal

@@ -1,3 +1,4 @@
+-- If both ends of a path are found and its units may be a segment and are kept, it names their bytes (`kept_segment`).
 use Rattle.std.proofs.Common.{◌≡◌, ◌≤◌, true, arith}
 use Rattle.hls_playlists_laws.specs.NamedUnits.{may_be_segment}
 use Rattle.hls_api.proofs.NamedSpans.{kept_segment}

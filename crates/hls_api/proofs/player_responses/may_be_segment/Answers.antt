@@ -1,3 +1,4 @@
+-- Units may be a segment if there are some and they last no longer than allowed; the facts of the first and the last are there.
 use Rattle.std.proofs.Common.{◌≡◌, ◌∙◌, ℕ, ◌-◌, None, Some, ap, arith}
 use Rattle.std.specs.Prelude.{nat_le, slice_get}
 use Rattle.hls_api.proofs.NamedSpans.{is_there, long_as, not_rising}

@@ -1,3 +1,4 @@
+-- The slice's reply is the reply for the path, since the path names the slice in this state (`kept_answer`).
 use Rattle.std.proofs.Common.{IfOk, subst}
 use Rattle.hls_core_laws.specs.Base.{bytes_before_base}
 use Rattle.hls_core.specs.Getters.{recording_of}

@@ -1,3 +1,4 @@
+-- Valid parameters lead to what the request for them leads to in the snapshot.
 use Rattle.hls_api.proofs.Programmes.{starts_params}
 use Rattle.hls_api.proofs.programme_responses.start_resolved.Goals as goal
 

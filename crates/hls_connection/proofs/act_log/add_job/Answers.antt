@@ -1,3 +1,4 @@
+-- The log grows by one act, the added job with its result; what the keeper has seen doesn't change.
 use Rattle.std.proofs.Common.{ap}
 use Rattle.hls_api.specs.Acts.{Added, Knowledge, view_of}
 use Rattle.hls_connection.proofs.PassLaws.{acted_one}

@@ -1,3 +1,4 @@
+-- The log grows by one act: the look, with the state that it showed or that it failed.
 use Rattle.hls_connection.proofs.PassLaws.{acted_looked}
 use Rattle.hls_connection.proofs.act_log.look.Goals as goal
 

@@ -1,3 +1,4 @@
+-- The log grows by one act, the readings of the encoders; what the keeper has seen doesn't change.
 use Rattle.std.proofs.Common.{ap}
 use Rattle.hls_api.specs.Acts.{Knowledge, ReadEncoders, view_of}
 use Rattle.hls_connection.proofs.PassLaws.{acted_one}

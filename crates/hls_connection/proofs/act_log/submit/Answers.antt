@@ -1,3 +1,4 @@
+-- The log grows by one act, the submitted event with its result; the event fits the state that the keeper saw.
 use Rattle.hls_api.specs.Acts.{Submitted}
 use Rattle.hls_connection.proofs.PassLaws.{acted_one}
 use Rattle.hls_connection.proofs.act_log.submit.Goals as goal

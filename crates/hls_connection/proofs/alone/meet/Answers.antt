@@ -1,3 +1,4 @@
+-- The event is applied to the state itself, as nobody else acts on it.
 use Rattle.std.proofs.Common.{inl, refl}
 use Rattle.hls_core_laws.specs.Outcome.{Refused, Repeated}
 use Rattle.hls_connection.proofs.alone.meet.Goals as goal

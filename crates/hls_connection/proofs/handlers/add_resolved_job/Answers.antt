@@ -1,3 +1,4 @@
+-- A valid query adds the job of its request in the current state, and the response says the result (`added_made`).
 use Rattle.std.proofs.Common.{◌≡◌, IfOk, Ok, rules}
 use Rattle.hls_api.specs.{JobResponses.added_answer, JobTable.IsAddResult, Queries.request_for, Queries.catchup_params_of}
 use Rattle.hls_catchup.specs.Jobs.JobLine.{served_version}

@@ -1,3 +1,5 @@
+-- A query that is refused gets its response at once; otherwise it is answered by what is known of its plan, or awaits it.
+-- Starting a programme is no act, so the acts are the look's and those of the plan.
 use Rattle.std.proofs.Common.{rules}
 use Rattle.hls_connection.proofs.PlanLaws.{acts_kept, planned_begun}
 use Rattle.hls_connection.proofs.handlers.begin_query.Goals as goal

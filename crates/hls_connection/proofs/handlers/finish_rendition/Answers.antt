@@ -1,3 +1,4 @@
+-- The response says whether the submitted Finish was done or refused, and why. Without memory there is no response.
 use Rattle.std.proofs.Common.{Ok, Err, rules}
 use Rattle.hls_connection.proofs.CallLaws.{finish_made}
 use Rattle.hls_connection.proofs.handlers.finish_rendition.Goals as goal

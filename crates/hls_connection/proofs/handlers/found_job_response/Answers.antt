@@ -1,3 +1,4 @@
+-- A job that was found is shown as its route and the method ask.
 use Rattle.hls_api.specs.{Exchanges.{params_of, shown_if}, Routes.allows}
 use Rattle.hls_connection.proofs.CallLaws.{shown_found}
 use Rattle.hls_connection.proofs.handlers.found_job_response.Goals as goal

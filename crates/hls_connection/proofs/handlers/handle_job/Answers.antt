@@ -1,3 +1,4 @@
+-- A request that removes a job is answered by the result of the removal; any other by the job as it was found.
 use Rattle.std.proofs.Common.{◌∙◌, ap, sym}
 use Rattle.hls_api.specs.{Exchanges.{RespondsWithJob, params_of, shown_if}, Routes.{allows, removes_job}}
 use Rattle.hls_connection.proofs.CallLaws.{found_job, removed_made, shown_made}

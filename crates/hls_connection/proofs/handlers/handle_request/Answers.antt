@@ -1,3 +1,4 @@
+-- A request for a job's route is answered about that job; any other gets the response of its route and method.
 use Rattle.std.proofs.Common.{◌≡◌, ◌∙◌, None, ap, sym, rules}
 use Rattle.hls_api.specs.{Exchanges.{params_of, job_at}, Routes.allows}
 use Rattle.hls_connection.proofs.CallLaws.{job_made, response_made}

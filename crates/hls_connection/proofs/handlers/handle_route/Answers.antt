@@ -1,3 +1,4 @@
+-- The response that each route's function makes is the route's own.
 use Rattle.std.proofs.Common.{◌∙◌, Some, ap, rules, subst, sym}
 use Rattle.hls_api.specs.Acts.{ActsExtend, Knowledge}
 use Rattle.hls_api.specs.Exchanges.{params_of}

@@ -1,3 +1,4 @@
+-- A request for a file of a job gets the file's requested range, if the route has the method.
 use Rattle.std.proofs.Common.{◌≡◌, true, ap, sym, ◌∙◌}
 use Rattle.hls_api.specs.{Exchanges.params_of, Routes.allows}
 use Rattle.hls_connection.proofs.handlers.show_job.Goals as goal

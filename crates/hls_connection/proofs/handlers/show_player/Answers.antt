@@ -1,3 +1,4 @@
+-- The response that is made for a player's route is what a player is shown of the state.
 use Rattle.std.proofs.Common.{◌≡◌, IfOk, ap, subst}
 use Rattle.hls_api.specs.Exchanges.{params_of, range_for, shown_to_player}
 use Rattle.hls_api.specs.Players.{init_answer, segment_answer}

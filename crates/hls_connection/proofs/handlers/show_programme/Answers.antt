@@ -1,3 +1,4 @@
+-- A request whose plan is unfinished gets the response for an unfinished plan at once.
 use Rattle.hls_connection.proofs.PlayerLaws.{unfinished_shown}
 use Rattle.hls_connection.proofs.handlers.show_programme.Goals as goal
 

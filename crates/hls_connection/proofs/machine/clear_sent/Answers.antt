@@ -1,3 +1,4 @@
+-- An output that was sent to its end has no bytes, like the new one that replaces it.
 use Rattle.std.proofs.{Common.{◌∙◌, length, sym}, lemmas.{Bool.eqb-true, List.nil_from_length}}
 use Rattle.hls_connection.proofs.machine.clear_sent.Goals as goal
 

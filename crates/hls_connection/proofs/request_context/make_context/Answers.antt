@@ -1,3 +1,4 @@
+-- What is kept of a head is its text, and the route and the query that its target has in the channel.
 use Rattle.std.proofs.Common.{◌≡◌, ◌∙◌, ap}
 use Rattle.hls_api.specs.Routes.{path_of, route_of}
 use Rattle.hls_connection.proofs.request_context.make_context.Goals as goal

@@ -1,3 +1,4 @@
+-- Input that can't become a head gets the response of its fault, and the connection ends.
 use Rattle.std.proofs.Common.{[], refl}
 use Rattle.hls_connection.proofs.CallLaws.{refused_head_due, replies_by}
 use Rattle.hls_connection.proofs.respond.refuse_head.Goals as goal

@@ -1,3 +1,4 @@
+-- A request that is refused gets the response of its fault, after a 100 Continue if one was due.
 use Rattle.std.proofs.Common.{refl}
 use Rattle.hls_api.specs.{Exchanges.continue_prefix, Responses.fault_answer}
 use Rattle.hls_connection.proofs.CallLaws.{due_is, replies_by}

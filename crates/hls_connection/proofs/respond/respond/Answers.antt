@@ -1,3 +1,4 @@
+-- A request gets its response, without content for HEAD; the connection closes if the request or an early response demands it.
 use Rattle.std.proofs.Common.{[]}
 use Rattle.hls_connection.proofs.CallLaws.{sends_by}
 use Rattle.hls_connection.proofs.respond.respond.Goals as goal

@@ -1,3 +1,4 @@
+-- What is sent is the response; without memory for it or its head, the fixed out-of-memory response.
 use Rattle.std.proofs.Common.{inl, refl}
 use Rattle.hls_connection.{specs.{RequestContexts.due_response}, proofs.CallLaws.memory_replies}
 use Rattle.hls_connection.proofs.respond.send_response.Goals as goal

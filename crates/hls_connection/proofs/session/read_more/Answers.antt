@@ -1,3 +1,4 @@
+-- A read appends its bytes, or the end of the input, to what the session received; one that fails ends the session.
 use Rattle.std.proofs.Common.{ℕ, List, length, true, false, ap}
 use Rattle.hls_http.specs.BufferedReader.{unread_of}
 use Rattle.hls_connection.proofs.SessionLaws.{ended_unread, led_hears}

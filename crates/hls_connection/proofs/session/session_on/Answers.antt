@@ -1,3 +1,4 @@
+-- The session has run from its first moment to each moment of the loop, and ends by a step (SessionLaws).
 use Rattle.std.proofs.Common.{◌∙◌, [], false, refl, ap}
 use Rattle.hls_http.specs.BufferedReader.{unread_of}
 use Rattle.hls_connection.specs.{declared.machine.ConnectionMachine.ConnectionMachine, Moments.moment, Traces.{trace_at, trace_after_read}}

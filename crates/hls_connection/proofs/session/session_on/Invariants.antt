@@ -1,3 +1,4 @@
+-- The session has run from its first moment to the present one.
 use Rattle.hls_connection.specs.Moments.{HasRun, moment}
 use Rattle.hls_connection.proofs.session.session_on.Given as goal
 

@@ -1,3 +1,4 @@
+-- The connection advances; then it is written, it is over, or it is read from.
 use Rattle.std.proofs.{Common.{length, sym}, lemmas.Bool.eqb-true}
 use Rattle.hls_connection.{specs.Traces.trace_at, proofs.SessionLaws.{ended_itself, led_advances, rests_open, untimed}}
 use Rattle.hls_connection.proofs.session.step_session.Goals as goal

@@ -1,3 +1,4 @@
+-- After a write that succeeds, the session has sent the next waiting bytes. After one that fails, it ends with a beginning of them written.
 use Rattle.hls_io.specs.Counted.{failures_of, inner_of}
 use Rattle.hls_http.specs.BufferedReader.{unread_of}
 use Rattle.hls_connection.proofs.SessionLaws.{ended_unwritten, led_sends}

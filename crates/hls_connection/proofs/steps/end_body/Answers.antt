@@ -1,3 +1,4 @@
+-- After a body was received the reply that is due is sent, by the result: ended, refused, out of memory or stopped.
 use Rattle.std.proofs.Common.{◌∙◌, arith, false, not, refl}
 use Rattle.hls_http.specs.Actions.{is_over}
 use Rattle.hls_api.{specs.Exchanges.{continue_prefix, ingest_refused_answer, ingested_answer, request_of}, proofs.Callers.acted_none}

@@ -1,3 +1,4 @@
+-- A request whose body announces more than is discarded is refused, and the connection stays consistent.
 use Rattle.std.proofs.Common.{◌∙◌, None, arith, refl}
 use Rattle.hls_api.specs.Exchanges.{request_of}
 use Rattle.hls_connection.proofs.{AnswerLaws.replies_discarded, CallLaws.{sent_acts, sent_proceeds}, HoldLaws.replied}

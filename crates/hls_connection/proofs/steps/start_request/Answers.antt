@@ -1,3 +1,4 @@
+-- By the request's action it is refused, or its body begins: an encoder's, or one that is discarded.
 use Rattle.std.proofs.Common.{◌∙◌, [], refl, sym, ap, arith, rules}
 use Rattle.hls_core.{specs.Streams.Reached, proofs.Callers.reached_none}
 use Rattle.hls_http.specs.declared.request_action.RequestAction.TheVariants.{Ingest, Refuse, Discard}

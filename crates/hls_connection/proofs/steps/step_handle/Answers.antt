@@ -1,3 +1,4 @@
+-- The request is answered, its response waits for a job or a plan, or its response is made in parts.
 use Rattle.std.proofs.Common.{◌≡◌, ◌∙◌, Some, ap, arith, inl, inr, refl, sym}
 use Rattle.hls_api.{specs.Exchanges.{continue_prefix, request_of}, proofs.Callers.acted_none}
 use Rattle.hls_connection.proofs.{AnswerLaws.replies_discarded, CallLaws.response_due, CallLaws.sent_acts, CallLaws.sent_proceeds, WaitLaws.awaited_by_route, WaitLaws.plan_asked, WaitLaws.wait_asked, WaitLaws.wait_ends}

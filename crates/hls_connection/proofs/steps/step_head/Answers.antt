@@ -1,3 +1,4 @@
+-- A head begins a request; without one the bytes are refused, or more of them are awaited.
 use Rattle.std.proofs.Common.{◌==◌, ◌∙◌, inl, inr, List, [], ℕ, length, refl, sym, ap, subst, arith}
 use Rattle.hls_http.specs.{declared.fault.HttpFault.TheVariants.{BadHead, HeadTooLarge}, Heads.ReadsLimitedHead, ReadHeads.IsHead}
 use Rattle.hls_http.specs.Buffers.{BufferTexts}

@@ -1,3 +1,4 @@
+-- A request for a programme awaits its plan, or its reply is sent.
 use Rattle.std.proofs.Common.{Ok, Err, inl, inr}
 use Rattle.hls_connection.proofs.PlanLaws.{sent_programme}
 use Rattle.hls_connection.proofs.steps.step_programme.Goals as goal

@@ -1,3 +1,4 @@
+-- A step that makes the next part of a response makes progress: fewer steps are left.
 use Rattle.std.proofs.Common.{arith}
 use Rattle.hls_connection.proofs.HoldLaws.{turns_on}
 use Rattle.hls_connection.proofs.steps.step_state.Goals as goal

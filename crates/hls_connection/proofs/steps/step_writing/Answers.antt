@@ -1,3 +1,4 @@
+-- A response that is made in parts is continued, or it is sent when it is done or out of memory.
 use Rattle.std.proofs.Common.{Some, [], arith, inr, refl}
 use Rattle.hls_api.specs.Exchanges.{continue_prefix, request_of}
 use Rattle.hls_connection.proofs.{AnswerLaws.replies_discarded, CallLaws.sent_asks_nothing, CallLaws.sent_few, CallLaws.sent_more, HoldLaws.replied, HoldLaws.stays}

@@ -1,3 +1,4 @@
+-- A response that waited for a job shows the job as it was found.
 use Rattle.hls_api.specs.Exchanges.{params_of}
 use Rattle.hls_connection.proofs.WaitLaws.{job_shown}
 use Rattle.hls_connection.proofs.wait.awaited_response.Goals as goal

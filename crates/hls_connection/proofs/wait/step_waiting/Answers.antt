@@ -1,3 +1,4 @@
+-- What was looked up decides whether the response still waits; if not, the answer that shows it is the request's.
 use Rattle.std.proofs.Common.{◌∙◌, refl, sym}
 use Rattle.hls_api.specs.Exchanges.{continue_prefix, request_of}
 use Rattle.hls_connection.specs.Waits.{awaited_route}

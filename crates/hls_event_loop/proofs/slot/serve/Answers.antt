@@ -1,3 +1,4 @@
+-- A connection that only discards its input doesn't change, and has no traffic.
 use Rattle.std.proofs.Common.{sym, subst}
 use Rattle.hls_event_loop.specs.Traffic.{no_traffic}
 use Rattle.hls_event_loop.proofs.slot.serve.Goals as goal

@@ -1,3 +1,4 @@
+-- A connection that is to end doesn't change. One that reads has changed by what its handler did, and then by the bytes that were read.
 use Rattle.std.proofs.KnownBytes.{Keeps-refl}
 use Rattle.hls_event_loop.proofs.Moving.{moves_on, moves_quiet}
 use Rattle.hls_event_loop.proofs.step.choose_step.Goals as goal

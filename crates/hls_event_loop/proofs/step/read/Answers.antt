@@ -1,3 +1,4 @@
+-- A read appends the bytes of the socket to the connection's input. One that fails, or isn't tried, leaves the connection as it was.
 use Rattle.std.proofs.{Common.{◌∙◌, sym}, KnownBytes.Keeps-refl}
 use Rattle.hls_event_loop.proofs.Moving.{moves_quiet, moves_read}
 use Rattle.hls_event_loop.proofs.step.read.Goals as goal

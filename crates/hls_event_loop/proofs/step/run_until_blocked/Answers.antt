@@ -1,3 +1,5 @@
+-- The steps compose: the connection after any number of them is what its handler makes of all bytes that were read and written,
+-- and other connections stay valid.
 use Rattle.std.proofs.KnownBytes.{Keeps-refl}
 use Rattle.hls_event_loop.proofs.Moving.{moves_on, moves_quiet}
 use Rattle.hls_event_loop.proofs.step.run_until_blocked.Goals as goal

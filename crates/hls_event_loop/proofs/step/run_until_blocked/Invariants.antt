@@ -1,3 +1,4 @@
+-- Before each step, the steps so far compose to one change of the connection and its socket, and every connection is still valid.
 use Rattle.hls_event_loop.specs.{Validity.StaysValid, Traffic.ServesOver}
 use Rattle.hls_event_loop.proofs.step.run_until_blocked.Given as goal
 

@@ -1,3 +1,4 @@
+-- A write takes the first bytes that wait, or keeps the output if it fails.
 use Rattle.std.proofs.{Common.{◌≡◌, ◌∙◌, List, ℕ, ap, sym, subst, take, length}, lemmas.List.take-take, KnownBytes.Keeps-refl}
 use Rattle.std.specs.Io.KnownBytes.{Appends}
 use Rattle.hls_event_loop.proofs.Moving.{moves_quiet, moves_sent}

@@ -1,3 +1,4 @@
+-- A size line within the limit is the next token of a chunked body. A longer line is invalid, and so is one that isn't complete within the limit.
 use Rattle.hls_http.proofs.BodySteps.{line_frame, long_line, no_line}
 use Rattle.hls_http.proofs.body_tokens.find_size.Goals as goal
 

@@ -1,3 +1,4 @@
+-- A trailer section that exceeds the limit is invalid, whether it is complete or not.
 use Rattle.hls_http.proofs.BodySteps.{long_trailers, no_trailers}
 use Rattle.hls_http.proofs.body_tokens.find_trailers.Goals as goal
 

@@ -1,3 +1,4 @@
+-- Before each round, the number is that of the digits so far, capped at 2^53.
 use Rattle.std.proofs.Common.{◌≡◌, take}
 use Rattle.hls_http.specs.Range.{capped_number}
 use Rattle.hls_http.proofs.bounded_digits.parse_capped.Given as goal

@@ -1,3 +1,4 @@
+-- Before each round, no Connection field so far has the token `close`: the remaining ones decide. Each round passes at least one field.
 use Rattle.std.{proofs.Common.{◌≡◌, ◌-◌, length, codes}, specs.List.list_any}
 use Rattle.hls_http.specs.{Fields.has_word, Values.values_from}
 use Rattle.hls_http.proofs.fields.closes_connection.Given as goal

@@ -1,3 +1,4 @@
+-- Before each round, no Expect field so far asks for 100 Continue: the remaining ones decide. Each round passes at least one field.
 use Rattle.std.{proofs.Common.{◌≡◌, ◌-◌, length, codes}, specs.List.list_any}
 use Rattle.hls_http.specs.{Fields.expects_continue, Values.values_from}
 use Rattle.hls_http.proofs.fields.expects_continue.Given as goal

@@ -1,3 +1,4 @@
+-- A value has a token if one of the pieces between its commas is that token; splitting at commas yields these pieces.
 use Rattle.std.proofs.{Common.{rules, tests}, lemmas.Iterator.{Search.any_from_yields_List, Splits.YieldsList-from_slice_split}}
 use Rattle.hls_http.specs.Fields.{has_word, is_word}
 use Rattle.hls_http.proofs.fields.has_token.Goals as goal

@@ -1,3 +1,4 @@
+-- A piece is a token if it equals it in any case once the blanks around it are trimmed.
 use Rattle.std.{proofs.{Common.{◌≡◌, ◌∙◌, ap, refl, rules}, lemmas.Str.Ascii.trim_ascii_is}, specs.Str.str_eq_ignore_ascii_case}
 use Rattle.hls_http.proofs.fields.is_token_in.Goals as goal
 

@@ -1,3 +1,4 @@
+-- Before each round, the first Content-Length is a number, and all values so far equal it: the remaining ones decide.
 use Rattle.std.{proofs.Common.{◌≡◌, ◌-◌, Some, length, codes}, specs.List.list_all}
 use Rattle.hls_http.specs.{Fields.length_of, Framing.is_length, Values.values_from}
 use Rattle.hls_http.proofs.fields.parse_equal_lengths.Given as goal

@@ -1,3 +1,4 @@
+-- A complete head within the limit is found, with its summary; its length is at most the text's.
 use Rattle.std.proofs.Common.{arith}
 use Rattle.hls_http.proofs.HeadLaws.{found_head}
 use Rattle.hls_http.proofs.head.find_head.Goals as goal

@@ -1,3 +1,4 @@
+-- A read appends bytes of the reader to the unread ones, which may have been moved to the front of the buffer before.
 use Rattle.std.proofs.{Common.{◌∙◌, ◌++◌, ℕ, List, arith, take, drop, ap}, lemmas.List.length-take-le}
 use Rattle.hls_http.proofs.Buffers.{held_more}
 use Rattle.hls_http.proofs.input_buffer.read_after_unread.Goals as goal

@@ -1,3 +1,4 @@
+-- If the next pair has the key, its value is the first with this key; otherwise the pairs after it decide.
 use Rattle.std.proofs.Common.{◌≡◌, ◌∙◌, ℕ, zero, suc, ◌+◌, ◌<◌, List, [], ◌∷◌, Some, true, false, bytes_eq, cond, drop, get_or, length, map, refl, sym, ap, arith, Vec, Global}
 use Rattle.std.proofs.lemmas.List.{drop_all}
 use native.Mathlib.Numerals.{unary_clauses}
@@ -13,6 +14,7 @@ first_left key (first ∷ pairs) zero pair within is =
     ap (λ (p : Vec ℕ Global × Vec ℕ Global). cond (bytes_eq p.0.items key) (Some p.1.items) (first_pair_value key (map pair_bytes pairs))) (sym is)
 first_left key (first ∷ pairs) (suc k) pair within is = first_left key pairs k pair (omega arith) is
 
+-- the value of a key among the pairs from k on is that of pair k if it has the key, and otherwise that among the later pairs
 looked_at : (key : List ℕ) (pairs : List (Vec ℕ Global × Vec ℕ Global)) (k : ℕ) (pair : Vec ℕ Global × Vec ℕ Global) → k < length pairs → pair ≡ get_or pairs k pair
     → first_pair_value key (map pair_bytes (drop k pairs)) ≡ cond (bytes_eq pair.0.items key) (Some pair.1.items) (first_pair_value key (map pair_bytes (drop (k + 1) pairs)))
 looked_at key pairs k pair within is = simp unary_clauses (first_left key pairs k pair within is)

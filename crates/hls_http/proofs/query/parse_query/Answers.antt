@@ -1,3 +1,4 @@
+-- The pairs read so far and those left in the iterator are all pairs of the query.
 use Rattle.std.proofs.Common.{◌≡◌, ◌∙◌, ℕ, List, [], ◌∷◌, ◌++◌, map, refl, sym, ap, append-nil, Vec, Global}
 use Rattle.hls_http.specs.Query.{pair_bytes}
 use Rattle.hls_http.proofs.query.parse_query.Goals as goal

@@ -1,3 +1,4 @@
+-- Before each round, the decoded pairs so far, followed by the remaining ones once decoded, are all pairs of the query.
 use Rattle.std.proofs.Common.{◌≡◌, ◌++◌, map}
 use Rattle.form_urlencoded.specs.{Form.decode, Form.parse, Parse.raw_pairs_left}
 use Rattle.hls_http.specs.Query.{pair_bytes}

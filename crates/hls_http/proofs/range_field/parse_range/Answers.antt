@@ -1,3 +1,4 @@
+-- After `bytes=`, a text without a hyphen is no range; otherwise the parts before and after the first hyphen determine it.
 use Rattle.std.proofs.{Common.{◌∙◌, ◌+◌, ap, take}, lemmas.List.take_rest}
 use Rattle.hls_http.specs.Range.{spec_around, range_of_value, by_texts, spec_of}
 use Rattle.hls_http.proofs.range_field.parse_range.Goals as goal

@@ -1,3 +1,4 @@
+-- The response to HEAD is the head alone, which gives the length of the content that isn't sent.
 use Rattle.std.{proofs.Common.{◌∙◌, ◌++◌, ℕ, List, [], Bool, length, append-nil, ap, sym}, specs.Prelude.cond}
 use Rattle.hls_http.specs.ResponseText.{head_text_of}
 use Rattle.hls_http.proofs.response.make_response.Goals as goal

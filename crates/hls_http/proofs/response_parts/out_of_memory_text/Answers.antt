@@ -1,3 +1,4 @@
+-- The fixed text is the out-of-memory response, head and body, by computing both.
 use Rattle.std.{specs.Fmt.digits, proofs.Common.refl}
 use Rattle.hls_http.specs.ResponseText.{out_of_memory_text, out_of_memory_head_text}
 use Rattle.hls_http.proofs.response_parts.out_of_memory_text.Goals as goal

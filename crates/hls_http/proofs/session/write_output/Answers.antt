@@ -1,3 +1,4 @@
+-- A front of the output is written and the rest waits, chunk by chunk, until nothing waits or a write fails.
 use Rattle.std.proofs.Common.{◌∙◌, ◌++◌, List, ℕ, drop, length, false, true, refl, ap, subst, sym}
 use Rattle.std.proofs.lemmas.{Bool.eqb-true, List.nil_from_length}
 use Rattle.hls_io.specs.Counted.{inner_of}

@@ -1,3 +1,4 @@
+-- Before each round, the sent part of the output is written and the rest waits; no failure was counted. Each round sends at least one byte.
 use Rattle.std.proofs.Common.{◌≡◌, List, ℕ, Some, length}
 use Rattle.hls_io.specs.Counted.{failures_of, inner_of}
 use Rattle.hls_http.proofs.SendLaws.{Sent}

@@ -1,3 +1,4 @@
+-- The cached playlists are those of the new state: they are removed if its version differs, and kept otherwise (`gone_on`).
 use Rattle.std.proofs.Common.{◌≡◌, ◌∙◌, ◌++◌, ◌∷◌, [], Some, length, inl, inr, ap, sym, subst}
 use Rattle.hls_core_laws.specs.State.{State}
 use Rattle.hls_api.specs.{declared.playlist_cache.PlaylistCache.TheInside.Inside, PlaylistCache.{HasSameListsBefore, noted_state}}

@@ -1,3 +1,4 @@
+-- A request that is found in the cache is the one to which the query leads in the cached state.
 use Rattle.hls_api.specs.PlaylistCache.{noted_state}
 use Rattle.hls_api.proofs.CachedQueries.{query_found}
 use Rattle.hls_api.proofs.programme_cache.ProgrammeCache.lookup.Goals as goal

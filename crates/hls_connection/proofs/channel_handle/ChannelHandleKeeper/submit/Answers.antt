@@ -1,3 +1,5 @@
+-- After a submitted event, the cached playlists and programmes are of a state with at most as many events as the one that was seen last,
+-- and of the same playlists if it has as many.
 use Rattle.hls_api.proofs.Callers.{lists_submitted}
 use Rattle.hls_connection.proofs.channel_handle.ChannelHandleKeeper.submit.Goals as goal
 

@@ -1,3 +1,4 @@
+-- A connection that advances stays consistent, and what its keeper has seen only gets later.
 use Rattle.std.proofs.Math.Logic.{∥∥₁_map}
 use Rattle.hls_api.proofs.Callers.{acted_follows, later_itself}
 use Rattle.hls_connection.proofs.TraceLaws.{suited_valid}

@@ -1,3 +1,4 @@
+-- A connection stays consistent when some of its waiting bytes are sent.
 use Rattle.std.proofs.{Common.{subst, sym}, Math.Logic.∥∥₁_map}
 use Rattle.hls_connection.{specs.Traces.{IsConsistentTrace, trace_of}, proofs.TraceLaws.sends_holds}
 use Rattle.hls_connection.proofs.connection.Connection.mark_sent.Goals as goal

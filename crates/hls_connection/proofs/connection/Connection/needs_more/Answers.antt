@@ -1,3 +1,4 @@
+-- A connection that is idle or blocked, isn't over and has nothing to send needs more of its stream, which hasn't ended.
 use Rattle.std.proofs.Math.Logic.{∥∥₁_map}
 use Rattle.hls_connection.{specs.Traces.trace_of, proofs.{HoldLaws.needs_of, SessionLaws.rests_before}}
 use Rattle.hls_connection.proofs.connection.Connection.needs_more.Goals as goal

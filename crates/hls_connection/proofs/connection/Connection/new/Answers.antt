@@ -1,3 +1,4 @@
+-- A new connection is consistent, has an empty history, and suits its keeper.
 use Rattle.std.proofs.Common.{ap}
 use Rattle.hls_api.specs.declared.route.ServedChannel.{ServedChannel}
 use Rattle.hls_connection.proofs.TraceLaws.{nothing_channel, nothing_history, nothing_holds, nothing_suits}

@@ -1,3 +1,4 @@
+-- A connection stays consistent after a read, whether it succeeded or failed, and after memory was allocated for it.
 use Rattle.std.proofs.Math.Logic.{∥∥₁_map}
 use Rattle.hls_connection.specs.Traces.{IsConsistentTrace, trace_of}
 use Rattle.hls_connection.proofs.connection.Connection.read_from.Goals as goal

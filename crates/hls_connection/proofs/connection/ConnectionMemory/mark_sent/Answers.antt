@@ -1,3 +1,4 @@
+-- When bytes are sent, the trace of an active connection changes as that of its machine does.
 use Rattle.std.proofs.Common.{◌∙◌, ap, sym}
 use Rattle.hls_connection.specs.{declared.connection.ActiveConnection.ActiveConnection, declared.connection.ConnectionMemory.ConnectionMemory}
 use Rattle.hls_connection.specs.Traces.{trace_after_send, trace_at, trace_of}

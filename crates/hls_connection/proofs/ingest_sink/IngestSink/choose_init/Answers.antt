@@ -1,3 +1,4 @@
+-- An init section that was usable before the look is usable after it, whichever section is chosen, and also if none can be.
 use Rattle.hls_connection.proofs.PassLaws.{usable_acted}
 use Rattle.hls_connection.proofs.ingest_sink.IngestSink.choose_init.Goals as goal
 

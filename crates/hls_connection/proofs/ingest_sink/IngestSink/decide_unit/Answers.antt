@@ -1,3 +1,4 @@
+-- By the state of the look the unit may be submitted as mending makes it, or it is ahead of the channel.
 use Rattle.std.proofs.Common.{◌≡◌, ◌≢◌, Some, Ok, true, rules, subst}
 use Rattle.hls_core_laws.specs.State.{State}
 use Rattle.hls_api.{specs.Ingest.MaySubmit, proofs.Callers.acted_on}

@@ -1,3 +1,4 @@
+-- An init section that was usable before the look is usable after it, also if the look fails or the rendition has none.
 use Rattle.hls_connection.proofs.PassLaws.{usable_acted}
 use Rattle.hls_connection.proofs.ingest_sink.IngestSink.find_init.Goals as goal
 

@@ -1,3 +1,4 @@
+-- An init section that was usable before the encoders were read is usable after that.
 use Rattle.hls_connection.proofs.PassLaws.{usable_acted}
 use Rattle.hls_connection.proofs.ingest_sink.IngestSink.may_submit.Goals as goal
 

@@ -1,3 +1,4 @@
+-- The acts are those of choosing the init section, followed by those of taking it.
 use Rattle.hls_api.proofs.Callers.{acted_on}
 use Rattle.hls_connection.proofs.ingest_sink.IngestSink.mend_init.Goals as goal
 

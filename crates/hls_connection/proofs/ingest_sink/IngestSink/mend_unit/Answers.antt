@@ -1,3 +1,4 @@
+-- The unit was prepared, its fillers submitted, and then the unit itself, unless one of these stopped (MendLaws).
 use Rattle.std.proofs.Common.{rules, ◌≡◌, Bool, List, true, false, Ok, refl, ap, subst}
 use Rattle.hls_mend.specs.declared.mended.ReadUnit.{ReadUnit}
 use Rattle.hls_api.{specs.Ingest.Progress, proofs.Callers.acted_on}

@@ -1,3 +1,4 @@
+-- The acts are those of finding the init section, followed by those of deciding on the unit.
 use Rattle.hls_api.proofs.Callers.{acted_on}
 use Rattle.hls_connection.proofs.ingest_sink.IngestSink.prepare_unit.Goals as goal
 

@@ -1,3 +1,4 @@
+-- A filler fits its rendition, since it can be read by the init section, and that stays usable after the filler is submitted.
 use Rattle.std.proofs.Common.{◌≡◌, rules}
 use Rattle.hls_connection.proofs.{MendLaws.fits_read_unit, PassLaws.usable_acted}
 use Rattle.hls_connection.proofs.ingest_sink.IngestSink.submit_filler.Goals as goal

@@ -1,3 +1,4 @@
+-- The fillers before the present one were submitted; it is the next, or the loop stops there.
 use Rattle.std.proofs.Common.{rules, ◌≡◌, Bool, true, false, Ok, ap, subst}
 use Rattle.hls_api.{specs.Ingest.Progress, proofs.Callers.acted_on}
 use Rattle.hls_connection.specs.{IngestStates.progress_of, MendingStates.SubmitsFillerOrFails}

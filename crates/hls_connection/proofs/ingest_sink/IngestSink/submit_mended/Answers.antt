@@ -1,3 +1,4 @@
+-- A mended unit fits its rendition and has a bounded end, since it can be read by the init section; that stays usable after the unit is submitted.
 use Rattle.hls_connection.proofs.{MendLaws.fits_read_unit, MendLaws.read_unit_ends, PassLaws.usable_acted}
 use Rattle.hls_connection.proofs.ingest_sink.IngestSink.submit_mended.Goals as goal
 

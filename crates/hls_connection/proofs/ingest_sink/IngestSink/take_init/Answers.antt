@@ -1,3 +1,5 @@
+-- An init section that was usable before the submission is usable after it. Without memory nothing is submitted;
+-- if the submission is refused, so is the part.
 use Rattle.std.proofs.Common.{inl, refl, rules}
 use Rattle.hls_media_laws.specs.IsInitOrUnit.{IsInit}
 use Rattle.hls_connection.{specs.IngestStates.progress_of, proofs.PassLaws.{init_refused, usable_acted}}

@@ -1,3 +1,4 @@
+-- The unit is read under the init section that was found, so it may be submitted.
 use Rattle.std.proofs.Common.{◌≡◌, Some, refl, rules}
 use Rattle.hls_media_laws.specs.IsInitOrUnit.{IsUnit}
 use Rattle.hls_api.proofs.Callers.{acted_on}

@@ -1,3 +1,4 @@
+-- The steps so far advance the connection; one more extends that, and lowers the number of steps left.
 use Rattle.std.proofs.Common.{◌≡◌, ◌∙◌, true, refl, arith, rules}
 use Rattle.hls_connection.proofs.{TraceLaws.advances_none, TraceLaws.advances_on, WaitLaws.awake_state, WaitLaws.begins_waits, WaitLaws.deadline_on}
 use Rattle.hls_connection.proofs.machine.ConnectionMachine.advance.Goals as goal

@@ -1,3 +1,4 @@
+-- The steps so far advance the connection, and lowered the number of steps left by at least their number.
 use Rattle.std.proofs.Common.{◌≡◌, ◌+◌, ◌≤◌, None}
 use Rattle.hls_connection.specs.{Waits.{IsDeadline, deadline_in}, Traces.{Advances, trace_at, trace_steps_left}}
 use Rattle.hls_connection.proofs.machine.ConnectionMachine.advance.Given as goal

@@ -1,3 +1,4 @@
+-- After a transition the trace has the new state, the step's acts after the earlier ones, and the step's output waiting.
 use Rattle.hls_connection.{specs.Traces.trace_at, proofs.HoldLaws.asked_more}
 use Rattle.hls_connection.proofs.machine.ConnectionMachine.apply.Goals as goal
 

@@ -1,3 +1,4 @@
+-- When bytes are sent, they move from those that wait to the end of those that were sent.
 use Rattle.std.proofs.Common.{◌∙◌, ℕ, List, take, flat_map, ap}
 use Rattle.hls_connection.{specs.Traces.trace_at, proofs.HoldLaws.flat_push}
 use Rattle.hls_connection.proofs.machine.ConnectionMachine.mark_sent.Goals as goal

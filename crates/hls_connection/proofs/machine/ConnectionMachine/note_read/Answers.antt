@@ -1,3 +1,4 @@
+-- The bytes that were read are appended to those that the connection received, and the end of its input is noted.
 use Rattle.std.proofs.{Common.{◌≡◌, ◌∙◌, ◌++◌, ℕ, List, drop, flat_map, ap}, Math.Seq.drop-append_seam}
 use Rattle.hls_http.specs.Buffers.{BufferTexts}
 use Rattle.hls_connection.{specs.Traces.trace_at, proofs.HoldLaws.flat_push}

@@ -1,3 +1,4 @@
+-- The bytes that were appended to the buffer are the next ones of the history.
 use Rattle.std.proofs.Common.{◌∙◌, ◌++◌, ℕ, List, length, sym, ap, subst}
 use Rattle.hls_connection.{specs.Traces.{IsConsistentTrace, IsSuitedTo, history_of}, proofs.HoldLaws.holds_more}
 use Rattle.hls_connection.proofs.machine.ConnectionMachine.read_from.Goals as goal

@@ -1,3 +1,5 @@
+-- A connection that has bytes to send doesn't change, nor does one that has read nothing of its next request.
+-- From any other state it advances as the step of that state does.
 use Rattle.std.proofs.Common.{◌≡◌, ap, arith, false, inl, inr, refl, rules}
 use Rattle.hls_connection.specs.Waits.{deadline_in}
 use Rattle.hls_connection.specs.Traces.{trace_at}

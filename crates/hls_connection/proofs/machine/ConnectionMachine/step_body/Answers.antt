@@ -1,3 +1,4 @@
+-- Receiving some of a body advances the connection: within the body, or by the step that ends it.
 use Rattle.std.proofs.Common.{◌≡◌, ◌∙◌, [], ap, append-nil, arith, inl, inr, refl}
 use Rattle.std.proofs.lemmas.List.{nil_from_length}
 use Rattle.hls_api.proofs.Callers.{acted_on}
@@ -9,7 +10,7 @@ use Rattle.hls_connection.proofs.WaitLaws.{begins_waits, never_waits, waits_to, 
 use Rattle.hls_connection.proofs.{HoldLaws.cuts, TraceLaws.advances_step, TraceLaws.advances_within, TraceLaws.receives}
 use Rattle.hls_connection.proofs.machine.ConnectionMachine.step_body.Goals as goal
 
--- while this body is received
+-- the trace with this body being received
 abbrev receiving_trace : ConnectionTrace → ReceivingBody → ConnectionTrace
 receiving_trace c r = record c { state = Receive r }
 
@@ -31,7 +32,7 @@ returns-in-Wait-clause-advances g c =
     rw c.in-Receive.is (advances_within _ (receiving_trace (trace_at m c.args.input.now.unread) c.in-Receive.receiving) _ c.receive_some.new.input.unread suits
     (receives c.receive_some.new.input.unread (λ stream first x. (c.in-Wait.ensures.receives m.channel stream first x).0)) r.act_steps (r.usable, r.for_target suits.body.1))
 
--- ---- a body that is over, or of which no more comes: it is cut short, too large, or ended
+-- ---- a body that receives no more: it is cut short, too large, or ended
 
 pub returns-in-Wait-2-clause-advances : goal.returns-in-Wait-2-clause-advances
 returns-in-Wait-2-clause-advances g c =

@@ -1,3 +1,4 @@
+-- The connection advances as the step of its state says, without acts, and fewer steps are left if there may be more to do.
 use Rattle.std.proofs.Common.{◌≡◌, ◌∙◌, [], ap, inl, inr, sym}
 use Rattle.std.proofs.lemmas.List.{nil_from_length}
 use Rattle.hls_api.proofs.Callers.{acted_none}

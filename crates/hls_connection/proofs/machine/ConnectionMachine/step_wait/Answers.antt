@@ -1,3 +1,4 @@
+-- A waiting response still waits, and nothing changes, or the step that answers it advances the connection.
 use Rattle.std.proofs.Common.{◌≡◌, [], arith, false, refl, rules}
 use Rattle.std.proofs.lemmas.List.{nil_from_length}
 use Rattle.hls_api.proofs.Callers.{acted_none}
@@ -10,7 +11,7 @@ use Rattle.hls_connection.proofs.WaitLaws.{answered_waits, waiting_waits, waits_
 use Rattle.hls_connection.proofs.{TraceLaws.advances_step, TraceLaws.advances_within}
 use Rattle.hls_connection.proofs.machine.ConnectionMachine.step_wait.Goals as goal
 
--- while this response waits
+-- the trace with this response waiting
 abbrev waiting_trace : ConnectionTrace → WaitingResponse → ConnectionTrace
 waiting_trace c w = record c { state = Wait w }
 

@@ -1,3 +1,4 @@
+-- A piece of an encoder's body is ingested, with its result; a piece of any other body is discarded without an act.
 use Rattle.std.proofs.Common.{Ok, Err, refl}
 use Rattle.hls_api.proofs.Callers.{acted_none}
 use Rattle.hls_connection.proofs.receive.BodyTarget.take_piece.Goals as goal

@@ -1,3 +1,4 @@
+-- A token of the body is a piece, framing, its end or a fault; each is a lemma of WithinLaws.
 use Rattle.std.proofs.Common.{◌≡◌, rules}
 use Rattle.hls_http.specs.declared.framing.BodyFraming.TheVariants.{Length}
 use Rattle.hls_connection.proofs.WithinLaws.{receive_broken, receive_frame, receive_over, receive_piece, receive_too_large, receive_untaken}

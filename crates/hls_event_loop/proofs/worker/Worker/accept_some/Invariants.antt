@@ -1,3 +1,4 @@
+-- Before each accept, all connections of the worker are valid for its handler.
 use Rattle.hls_event_loop.specs.Validity.{AllValid}
 use Rattle.hls_event_loop.proofs.worker.Worker.accept_some.Given as goal
 

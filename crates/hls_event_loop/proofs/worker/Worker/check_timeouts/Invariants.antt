@@ -1,3 +1,4 @@
+-- Before each connection is checked for its timeout, all connections of the worker are valid for its handler.
 use Rattle.hls_event_loop.specs.Validity.{AllValid}
 use Rattle.hls_event_loop.proofs.worker.Worker.check_timeouts.Given as goal
 

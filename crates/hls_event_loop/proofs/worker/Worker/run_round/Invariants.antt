@@ -1,3 +1,4 @@
+-- Before each event of a round, all connections of the worker are valid for its handler.
 use Rattle.hls_event_loop.specs.Validity.{AllValid}
 use Rattle.hls_event_loop.proofs.worker.Worker.run_round.Given as goal
 

@@ -1,3 +1,4 @@
+-- Before each round, all connections of the worker are valid for its handler.
 use Rattle.hls_event_loop.specs.Validity.{AllValid}
 use Rattle.hls_event_loop.proofs.worker.Worker.serve.Given as goal
 

@@ -1,3 +1,4 @@
+-- After some unread bytes are consumed, the unread ones are those that followed them.
 use Rattle.std.proofs.Common.{vec_len}
 use Rattle.hls_http.proofs.Buffers.{takes}
 use Rattle.hls_http.proofs.input_buffer.InputBuffer.consume.Goals as goal

@@ -1,3 +1,4 @@
+-- By the token at the front of the held bytes: a piece is returned, a frame continues the loop, and an incomplete one needs a read.
 use Rattle.std.proofs.Common.{◌≡◌, ◌∙◌, ◌<◌, ◌++◌, ℕ, List, [], length, length-take, sym, ap, subst, arith, refl, take, drop}
 use Rattle.hls_http.specs.{Bodies.{RunsOnReader, IsOpen}, Buffers.BufferTexts, declared.input_buffer.ReadOutcome.TheVariants.Eof, BufferedReader.{unread_of, reader_of}}
 use Rattle.hls_http.proofs.{BodySteps.{goes_filled, goes_none, goes_then, last_alone}, HeadLaws.at_end}

@@ -1,3 +1,4 @@
+-- The frames so far are steps of the input without content. Each read leaves fewer reads, and each frame fewer held bytes.
 use Rattle.std.proofs.Common.{◌≡◌, ◌+◌, ◌*◌, ◌++◌, List, [], ℕ, Some, length}
 use Rattle.hls_http.specs.{Bodies.RunsOnReader, BufferedReader.{unread_of, read_failures, reader_of, reads_left}}
 use Rattle.hls_http.proofs.session.Session.body.Given as goal

@@ -1,3 +1,4 @@
+-- If the stream ends before a byte of the next head, none of its bytes is left unread.
 use Rattle.std.proofs.{Common.{◌∙◌, ◌++◌, Some, sym, ap, arith}, lemmas.List.nil_from_length}
 use Rattle.hls_http.{specs.BufferedReader.unread_of, proofs.HeadLaws.at_end}
 use Rattle.hls_http.proofs.session.Session.next_head.Goals as goal

@@ -1,3 +1,4 @@
+-- Reads change neither the input still to come nor the failures; each leaves one read fewer.
 use Rattle.std.{proofs.Common.{◌≡◌, ◌++◌, List, ℕ, Some}, specs.Io.KnownBytes.prepend_known}
 use Rattle.hls_http.specs.BufferedReader.{unread_of, read_failures, reader_of, reads_left}
 use Rattle.hls_http.proofs.session.Session.next_head.Given as goal

@@ -1,3 +1,5 @@
+-- The reply, or the fixed 503 if its buffer can't be allocated, is written whole, or a beginning of it if a write fails.
+-- The session continues only after a whole reply that doesn't close the connection.
 use Rattle.std.proofs.Common.{◌∙◌, inl, inr, sym, ap}
 use Rattle.hls_http.{specs.ResponseText.response_text, proofs.SendLaws.writes_as}
 use Rattle.hls_http.proofs.session.Session.reply.Goals as goal
