@@ -6,6 +6,7 @@ use Rattle.hls_check_tables.specs.declared.verdict.Verdict.TheVariants.{Cut, NoC
 use Rattle.hls_text.specs.Numbers.{spaced_numbers}
 use Rattle.hls_commands.specs.CheckAnswer.{check_line}
 
+-- the line of a verdict with a cut; no_cut that of one without; and the others those of the faults, with the numbers that they name
 cut : check_line (Ok (Cut 1000000)) ≡ codes "cut 1000000\n"
 unfolding spaced_numbers digits
 cut = refl

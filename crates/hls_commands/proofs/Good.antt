@@ -28,6 +28,7 @@ all_from_each : {A : Type 0} (P : A → Type 0) (xs : List A) → ((k : ℕ) (x 
 all_from_each P [] each = All-nil P
 all_from_each P (x ∷ xs) each = All-cons P x xs (each 0 x refl) (all_from_each P xs (λ k y at. each (suc k) y at))
 
+-- each unit of a recording has bytes, and together they are small enough for a layout
 units_good : (epoch : Option ℤ) (r : RecordingData) (uri : List ℕ) → IsRecorded r → AreUnits (job_layout epoch r 0 uri 0)
 units_good epoch r uri valid = record {
   some = all_from_each (λ f. 0 < f.len) r.facts
@@ -35,7 +36,7 @@ units_good epoch r uri valid = record {
   total = valid.small;
 }
 
--- a playlist over the recording's resource
+-- the playlist of valid segments over the recording's resource has a text
 pub has_text : (r : RecordingData) (target : ℕ) (uri : List ℕ) (segments : List MediaSegment) → IsRecorded r → target ≤ 3600 → IsUri uri →
     All (IsSegment uri) segments → HasText (vod_list target uri (length r.head) segments)
 has_text r target uri segments valid few good are =
@@ -44,7 +45,7 @@ has_text r target uri segments valid few good are =
     let limit : length r.head ≤ 1048576 = head.len_limit in
     vod_has_text target uri (length r.head) segments (omega arith) good some (omega arith) are
 
--- by a plan
+-- the playlist by a plan of a valid table has a text
 pub plan_has_text : (epoch : Option ℤ) (r : RecordingData) (uri : List ℕ) (t : Table) (plan : List ℕ) → IsEpoch epoch → IsRecorded r → IsUri uri → IsTable t → IsPlan t plan →
     end_fragment t 0 ≤ length r.facts → HasText (vod_list t.goal.target uri (length r.head) (plan_segments (job_layout epoch r 0 uri 0) t.places plan))
 plan_has_text epoch r uri t plan known valid good table is_plan ever =
@@ -52,12 +53,13 @@ plan_has_text epoch r uri t plan known valid good table is_plan ever =
     has_text r t.goal.target uri (plan_segments (job_layout epoch r 0 uri 0) t.places plan) valid table.goal.target.1 good
     (segments_are_good t plan (job_layout epoch r 0 uri 0) table is_plan (omega arith) (units_good epoch r uri valid) known ever).1
 
--- a plan's places are those of its table
+-- if the steps of a plan are allowed, its places are those of the table
 leads_within : (t : Table) (p : ℕ) (rest : List ℕ) → p < length t.places → StepsAreAllowed t p rest → All (λ q. q < length t.places) (p ∷ rest)
 leads_within t p [] here leads = All-cons (λ q. q < length t.places) p [] here (All-nil (λ q. q < length t.places))
 leads_within t p (q ∷ rest) here leads =
     All-cons (λ q. q < length t.places) p (q ∷ rest) here (leads_within t q rest leads.0.to leads.1)
 
+-- the places of a plan are those of its table
 pub plan_within : (t : Table) (plan : List ℕ) → IsTable t → IsPlan t plan → All (λ p. p < length t.places) plan
 plan_within t [] table is_plan = absurd is_plan
 plan_within t (p ∷ rest) table is_plan =
@@ -68,6 +70,7 @@ plan_within t (p ∷ rest) table is_plan =
 abbrev pub NonePast : ℕ → List (List Spot) → Type 0
 NonePast count places = (i : ℕ) → i < length places → (spot_in (place_at places i) 0).fragment ≤ count
 
+-- if each place reaches the next and none is past the last unit, the segments between them are valid
 each_good : (target : ℕ) (cut : ResourceLayout) (places : List (List Spot)) (i n : ℕ) (mark : Bool) → target ≤ 3600 → cut.rendition ≡ 0 → AreUnits cut → IsEpoch cut.epoch →
     All (IsPlaceOf 1) places → NonePast (length cut.facts) places → AllReachNext target places → i + n + 1 ≡ length places →
     All (IsSegment cut.uri) (plan_segments_from cut places i mark (range_with_len (i + 1) n))
@@ -106,7 +109,7 @@ each_good target cut places i (suc n) mark few single units known ones ever reac
     }) in
     All-cons (IsSegment cut.uri) (segment_between cut mark p q) (plan_segments_from cut places (i + 1) (is_break q) (range_with_len (i + 1 + 1) n)) here rest
 
--- by the plan that contains every place
+-- the playlist with a segment from each place to the next has a text
 pub each_has_text : (epoch : Option ℤ) (r : RecordingData) (target : ℕ) (uri : List ℕ) (places : List (List Spot)) → IsEpoch epoch → IsRecorded r → target ≤ 3600 → IsUri uri →
     All (IsPlaceOf 1) places → NonePast (length r.facts) places → AllReachNext target places →
     HasText (vod_list target uri (length r.head) (plan_segments (job_layout epoch r 0 uri 0) places (full_plan places)))

@@ -1,3 +1,5 @@
+-- The lemmas of this crate, on the commands `cut`, `check`, `lint` and `explain`: from what is read to the state, listing or answer that it
+-- gives, and from this to the text that is written.
 mod AcceptLaws
 mod AnswerLaws
 mod Begun

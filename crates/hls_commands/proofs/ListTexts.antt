@@ -9,6 +9,7 @@ use Rattle.hls_playlists_laws.specs.Segments.{plan_segments}
 use Rattle.hls_playlists_laws.specs.JobPlaylists.{job_layout}
 use Rattle.hls_commands.specs.Each.{plan_list}
 
+-- the text of the playlist whose target duration, name and segments were computed is that of the playlist by the plan
 pub written_by : (epoch : Option ℤ) (r : RecordingData) (target seconds : ℕ) (uri name : List ℕ) (segments : List MediaSegment) (places : List (List Spot))
     (plan text : List ℕ) → seconds ≡ target → name ≡ uri → segments ≡ plan_segments (job_layout epoch r 0 name 0) places plan →
     IsWritten (vod_list seconds name (length r.head) segments) text → IsWritten (plan_list target epoch r uri places plan) text

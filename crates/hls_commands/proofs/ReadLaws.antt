@@ -10,6 +10,7 @@ use Rattle.hls_commands.specs.ReadInput.{Reads, kept_bytes, held_len}
 
 -- ---- the bytes that are held
 
+-- while all bytes read are held, as many of the next ones are held as there is room for
 held_within : (most : ℕ) (taken piece : List ℕ) → length taken ≤ most → take most (taken ++ piece) ≡ taken ++ take (min (most - length taken) (length piece)) piece
 held_within most taken piece within =
     let on : most ≡ length taken + (most - length taken) = omega arith in
@@ -17,6 +18,7 @@ held_within most taken piece within =
     ∙ take-append-add taken piece (most - length taken)
     ∙ ap (λ xs. taken ++ xs) (sym (take_min (most - length taken) piece))
 
+-- once there is no room, none of the next bytes is held
 held_past : (most : ℕ) (taken piece : List ℕ) → most ≤ length taken → take most (taken ++ piece) ≡ take most taken ++ take (min (most - most) (length piece)) piece
 held_past most taken piece past =
     let none : min (most - most) (length piece) ≡ 0 = omega arith in
@@ -24,6 +26,7 @@ held_past most taken piece past =
     ∙ sym (append-nil (take most taken))
     ∙ ap (λ n. take most taken ++ take n piece) (sym none)
 
+-- of at most `most` bytes, as many of the next ones are held as there is room for
 held_most : (most : ℕ) (taken piece : List ℕ) → (length taken ≤ most) ⊎ (most ≤ length taken) →
     take most (taken ++ piece) ≡ take most taken ++ take (min (most - length (take most taken)) (length piece)) piece
 held_most most taken piece (inl within) =
@@ -36,7 +39,7 @@ held_most most taken piece (inr past) =
 within_or_past : (m n : ℕ) → (m ≤ n) ⊎ (n ≤ m)
 within_or_past m n = grind arith
 
--- what is held after more bytes: as many of them as there is room for
+-- of more bytes that were read, as many are held as there is room for
 held_more : (most : Option ℕ) (taken piece : List ℕ) →
     kept_bytes most (taken ++ piece) ≡ kept_bytes most taken ++ take (held_len most (length (kept_bytes most taken)) (length piece)) piece
 held_more None taken piece = ap (λ xs. taken ++ xs) (sym (take-length piece))
@@ -52,13 +55,16 @@ pub record Reading (most : Option ℕ) (stream : List ℕ) (left : Option (List 
   pub split : stream ≡ taken ++ rest
   pub held : bytes ≡ kept_bytes most taken
 
+-- of no bytes none is held
 held_of_none : (most : Option ℕ) → [] ≡ kept_bytes most []
 held_of_none None = refl
 held_of_none (Some most) = sym (take_all most [] (omega arith))
 
+-- before anything is read, nothing is held
 pub reading_none : (most : Option ℕ) (stream bytes : List ℕ) (left : Option (List ℕ)) → left ≡ Some stream → bytes ≡ [] → Reading most stream left bytes
 reading_none most stream bytes left is none = record { taken = []; rest = stream; left_is = is; split = refl; held = none ∙ held_of_none most }
 
+-- a read that returned a piece of a known rest leaves a known rest
 more_known : (most : Option ℕ) (stream rest taken bytes piece : List ℕ) (old new : Option (List ℕ)) → old ≡ Some rest → Consumes old new piece → stream ≡ taken ++ rest →
     bytes ≡ kept_bytes most (taken ++ piece) → Reading most stream new bytes
 more_known most stream rest taken bytes piece None new is gave split held = cc
@@ -73,6 +79,7 @@ more_known most stream rest taken bytes piece (Some xs) (Some ys) is gave split 
       held = held;
     }
 
+-- a read that returned a piece, whose first n bytes there was room for, holds these after the bytes before
 pub reading_more : (most : Option ℕ) (stream bytes piece : List ℕ) (n : ℕ) (old new : Option (List ℕ)) → Reading most stream old bytes → Consumes old new piece →
     n ≡ held_len most (length bytes) (length piece) → Reading most stream new (bytes ++ take n piece)
 reading_more most stream bytes piece n old new h gave is =
@@ -80,32 +87,39 @@ reading_more most stream bytes piece n old new h gave is =
     ap (λ k. bytes ++ take k piece) is ∙ ap (λ xs. xs ++ take (held_len most (length xs) (length piece)) piece) h.held ∙ sym (held_more most h.taken piece) in
     more_known most stream h.rest h.taken (bytes ++ take n piece) piece old new h.left_is gave h.split here
 
+-- a failed read leaves a known rest as it was
 kept_known : (xs : List ℕ) (old new : Option (List ℕ)) → old ≡ Some xs → Keeps old new → new ≡ Some xs
 kept_known xs None new is keeps = cc
 kept_known xs (Some ys) None is keeps = absurd keeps
 kept_known xs (Some ys) (Some zs) is keeps = cc
 
+-- a read of no bytes at the end of a known rest means that nothing is left
 at_end : (xs : List ℕ) (old new : Option (List ℕ)) → old ≡ Some xs → Consumes old new [] → IsAtEnd new → (new ≡ Some []) × (xs ≡ [])
 at_end xs None new is gave end = cc
 at_end xs (Some ys) None is gave end = absurd gave
 at_end xs (Some ys) (Some zs) is gave end = let same : xs ≡ ys = cc in (ap Some end, same ∙ gave ∙ end)
 
+-- a failed read ends the reading with ReadFailed, and leaves the rest of the stream
 pub reads_failed : (most : Option ℕ) (stream bytes : List ℕ) (old new : Option (List ℕ)) → Reading most stream old bytes → Keeps old new → Reads most stream new (Err unread.ReadFailed)
 reads_failed most stream bytes old new h keeps = record { taken = h.taken; rest = h.rest; left_is = kept_known h.rest old new h.left_is keeps; split = h.split; yields = tt }
 
+-- an allocation failure after a piece of a known rest was read ends the reading with Memory, and leaves a known rest
 unkept_known : (most : Option ℕ) (stream rest taken piece : List ℕ) (old new : Option (List ℕ)) → old ≡ Some rest → Consumes old new piece → stream ≡ taken ++ rest →
     Reads most stream new (Err unread.Memory)
 unkept_known most stream rest taken piece old new is gave split =
     let more = more_known most stream rest taken (kept_bytes most (taken ++ piece)) piece old new is gave split refl in
     record { taken = more.taken; rest = more.rest; left_is = more.left_is; split = more.split; yields = tt }
 
+-- a piece that was read and couldn't be held ends the reading with Memory, and leaves the rest of the stream
 pub reads_unkept : (most : Option ℕ) (stream bytes piece : List ℕ) (old new : Option (List ℕ)) → Reading most stream old bytes → Consumes old new piece →
     Reads most stream new (Err unread.Memory)
 reads_unkept most stream bytes piece old new h gave = unkept_known most stream h.rest h.taken piece old new h.left_is gave h.split
 
+-- an allocation failure before anything is read ends the reading with Memory
 pub reads_none : (most : Option ℕ) (stream : List ℕ) (left : Option (List ℕ)) → left ≡ Some stream → Reads most stream left (Err unread.Memory)
 reads_none most stream left is = record { taken = []; rest = stream; left_is = is; split = refl; yields = tt }
 
+-- at the end of the stream the text was read completely
 pub reads_whole : (most : Option ℕ) (stream : List ℕ) (bytes : Vec ℕ Global) (old new : Option (List ℕ)) → Reading most stream old bytes.items → Consumes old new [] →
     IsAtEnd new → Reads most stream new (Ok bytes)
 reads_whole most stream bytes old new h gave end =

@@ -28,6 +28,7 @@ facts_from (Some init) l h recorded is =
     let same : made ≡ recorded = cc in
     sym (ap (λ (x : RecordingData). x.facts) same)
 
+-- the facts of the first source of a state are those of the recording of rendition 0
 source_facts : (s : State) (recorded : RecordingData) → 1 ≤ length s.config.renditions → recording_of s 0 ≡ Some recorded →
     (source_at (sources s) 0).facts ≡ recorded.facts
 source_facts s recorded some is =
@@ -36,13 +37,14 @@ source_facts s recorded some is =
     let there : recorded_at (Some lane.0) (held_bytes s 0) ≡ Some recorded = ap (λ (o : Option Lane). recorded_at o (held_bytes s 0)) (sym lane.1) ∙ is in
     (source_of s 0 lane.0 lane.1).facts ∙ sym (facts_from lane.0.init lane.0 (held_bytes s 0) recorded there)
 
+-- if spots are within their sources, the first spot's unit number is at most the number of the first source's units
 first_bounded : (sources : List Source) (spots : List Spot) → 1 ≤ length sources → Bounded sources spots →
     (spot_in spots 0).fragment ≤ length (source_at sources 0).facts
 first_bounded [] spots some bounded = absurd (omega arith)
 first_bounded (s ∷ sources) [] some bounded = absurd bounded
 first_bounded (s ∷ sources) (spot ∷ spots) some bounded = bounded.0
 
--- its places
+-- the places of a state with one rendition are places of its recording
 pub places_single : (s : State) (recorded : RecordingData) → length s.config.renditions ≡ 1 → recording_of s 0 ≡ Some recorded → IsRecorded recorded →
     AreSources (sources s) → 1 ≤ length (places s) → ArePlacesOf recorded (places s)
 places_single s recorded one is valid are some =
@@ -62,7 +64,7 @@ places_single s recorded one is valid are some =
           (first_bounded (sources s) (get_or (places s) k d).spots (omega arith) bounded);
     }
 
--- as a snapshot returns them
+-- the places that a snapshot returns are places of its recording
 pub places_given : (s : State) (recorded : RecordingData) (given : Numbered Place) (next : ℕ) → given ≡ record { first = 0; items = places s } →
     next ≡ next_of given → 2 ≤ next → length s.config.renditions ≡ 1 → Some recorded ≡ recording_of s 0 → IsRecorded recorded →
     AreSources (sources s) → ArePlacesOf recorded given.items

@@ -17,6 +17,7 @@ abbrev pub along : ResourceLayout → Bool → List Spot → List (List Spot) �
 along cut mark from [] = []
 along cut mark from (to ∷ rest) = segment_between cut mark from to ∷ along cut (is_break to) to rest
 
+-- if what follows i places begins with a place, it is place i, and the rest follows i + 1 places
 next_from : (places : List (List Spot)) (i : ℕ) (to : List Spot) (rest : List (List Spot)) → drop i places ≡ to ∷ rest →
     (place_at places i ≡ to) × (drop (suc i) places ≡ rest)
 next_from [] zero to rest is = absurd (cc)
@@ -31,6 +32,7 @@ at_next places i to rest is =
     let next = next_from places (i + 1) to rest is in
     (next.0, ap (λ (n : ℕ). drop n places) (add-one (i + 1)) ∙ next.1)
 
+-- the segments from place i along the rest are those of a plan that contains place i and every later place
 along_from : (cut : ResourceLayout) (places : List (List Spot)) (i : ℕ) (mark : Bool) (rest : List (List Spot)) → drop (i + 1) places ≡ rest →
     along cut mark (place_at places i) rest ≡ plan_segments_from cut places i mark (range_with_len (i + 1) (length rest))
 along_from cut places i mark [] is = refl
@@ -41,7 +43,7 @@ along_from cut places i mark (to ∷ rest) is =
     ∙ ap (λ (ss : List MediaSegment). segment_between cut mark p (place_at places (i + 1)) ∷ ss)
     (along_from cut places (i + 1) (is_break (place_at places (i + 1))) rest next.1)
 
--- they are those of the plan that contains every place
+-- the segments from the first place along the others are those of the plan that contains every place
 pub along_each : (cut : ResourceLayout) (first : List Spot) (rest : List (List Spot)) →
     along cut false first rest ≡ plan_segments cut (first ∷ rest) (full_plan (first ∷ rest))
 along_each cut first rest = along_from cut (first ∷ rest) 0 false rest refl
@@ -55,7 +57,7 @@ ones_of items first rest is ones =
       All-tail (IsPlaceOf 1) first.spots (spots_of rest) split,
     )
 
--- one more segment
+-- adding the segment to the next place leaves the segments made and those to come the same in total
 pub one_more : (cut : ResourceLayout) (made more : List MediaSegment) (mark next : Bool) (from : List Spot) (walk : List Place) (to : Place) (rest : List Place)
     (segment : MediaSegment) (whole : List MediaSegment) → walk ≡ to ∷ rest → more ≡ made ++ segment ∷ [] → segment ≡ segment_between cut mark from to.spots →
     next ≡ is_break to.spots → made ++ along cut mark from (spots_of walk) ≡ whole → more ++ along cut next to.spots (spots_of rest) ≡ whole
@@ -66,7 +68,7 @@ one_more cut made more mark next from walk to rest segment whole is pushed here 
     ∙ ap (λ (s : MediaSegment). made ++ (s ∷ along cut (is_break to.spots) to.spots (spots_of rest))) here
     ∙ ap (λ (ps : List Place). made ++ along cut mark from (spots_of ps)) (sym is) ∙ before
 
--- all segments
+-- after the last place the segments made are those of the plan that contains every place
 pub all_made : (cut : ResourceLayout) (items : List Place) (first : Place) (rest left : List Place) (made : List MediaSegment) (mark : Bool) (from : List Spot) →
     items ≡ first ∷ rest → left ≡ [] →
     made ++ along cut mark from (spots_of left) ≡ along cut false first.spots (spots_of rest) →
@@ -81,7 +83,7 @@ pub none_made : (cut : ResourceLayout) (items : List Place) (made : List MediaSe
     made ≡ plan_segments cut (spots_of items) (full_plan (spots_of items))
 none_made cut items made none empty = empty ∙ ap (λ (ps : List Place). plan_segments cut (spots_of ps) (full_plan (spots_of ps))) (sym none)
 
--- one more step is allowed
+-- if each place before this one reaches the next, and this one does, each place up to it does
 pub step_more : (target : ℕ) (places : List (List Spot)) (place : ℕ) → ((k : ℕ) → k < place → ReachesNext target places k) → ReachesNext target places place →
     (k : ℕ) → k < place + 1 → ReachesNext target places k
 step_more target places place before here k within = elim (cases_lt k place) [
@@ -89,7 +91,7 @@ step_more target places place before here k within = elim (cases_lt k place) [
   | inr last ↦ (let same : place ≡ k = omega arith in subst (ReachesNext target places) same here)
 ]
 
--- the next place of an iteration
+-- the next place of an iteration is the place after the present one
 pub next_place : (items walk rest : List Place) (place : ℕ) (to : Place) → drop (place + 1) (spots_of items) ≡ spots_of walk → walk ≡ to ∷ rest →
     (place_at (spots_of items) (place + 1) ≡ to.spots) × (drop (place + 1 + 1) (spots_of items) ≡ spots_of rest)
 next_place items walk rest place to left is =

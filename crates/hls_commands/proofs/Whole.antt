@@ -15,6 +15,7 @@ use Rattle.hls_playlists_laws.specs.SegmentLaws.{end_fragment}
 use Rattle.hls_commands.specs.Places.{ArePlacesOf}
 use Rattle.hls_commands.proofs.Good.{NonePast}
 
+-- a table has as many places as the channel
 pub length_spots : (places : List Place) → length (spots_of places) ≡ length places
 length_spots places = length-map places (λ (p : Place). p.spots)
 
@@ -22,6 +23,7 @@ length_spots places = length-map places (λ (p : Place). p.spots)
 pub one_each : (places : List Place) → ArePlaces places → renditions_in places ≡ 1 → All (IsPlaceOf 1) (spots_of places)
 one_each places are single = subst (λ (n : ℕ). All (IsPlaceOf n) (spots_of places)) single are.each
 
+-- the places of one rendition, from two up to the limit, are a valid table for a valid goal
 pub whole_is_table : (goal : Goal) (places : List Place) → ArePlaces places → renditions_in places ≡ 1 →
     IsGoal goal → 2 ≤ length places → length places ≤ place_limit →
     IsTable (table_of goal 1 (spots_of places))
@@ -34,6 +36,7 @@ whole_is_table goal places are single good some few =
       places = one_each places are single;
     }
 
+-- the places of one rendition are in order in their table
 pub whole_is_orderly : (goal : Goal) (places : List Place) → ArePlaces places → renditions_in places ≡ 1 →
     IsOrderly (table_of goal 1 (spots_of places))
 whole_is_orderly goal places are single =
@@ -52,6 +55,7 @@ none_past recorded places are i within =
     All-get_or (λ (p : Place). (spot_in p.spots 0).fragment ≤ length recorded.facts) places i no_place (omega arith) are.ever in
     subst (λ (p : List Spot). (spot_in p 0).fragment ≤ length recorded.facts) (sym (table-place places i)) there
 
+-- the last place of a table of all places is not past the end of the last unit
 pub end_within : (goal : Goal) (recorded : RecordingData) (places : List Place) → ArePlacesOf recorded places → 2 ≤ length places →
     end_fragment (table_of goal 1 (spots_of places)) 0 ≤ length recorded.facts
 end_within goal recorded places are some =

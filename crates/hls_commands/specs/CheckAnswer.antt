@@ -25,10 +25,11 @@ pub record NamesWrongLine (bytes : List ℕ) (answer : Result Verdict CertFault)
   pub first_wrong : IsFirstWrongLine bytes line
   pub answer_is : answer ≡ Err (Form line)
 
--- the only answer to a text
+-- the text's only answer: that to the certificate whose text it is, or its first wrong line
 abbrev pub AnswerOf : List ℕ → Result Verdict CertFault → Type 0
 AnswerOf bytes answer = AnswersCertificate bytes answer ⊎ NamesWrongLine bytes answer
 
+-- the numbers that a fault names: a line, or one or two places
 abbrev pub fault_numbers : CertFault → List ℕ
 fault_numbers (Form line) = line ∷ []
 fault_numbers (TableNotSorted place) = place ∷ []
@@ -40,7 +41,7 @@ fault_numbers (PriceStep p q) = p ∷ q ∷ []
 fault_numbers EndReached = []
 fault_numbers Memory = []
 
--- an answer without its line feed
+-- the line of an answer, without its line feed
 abbrev pub answer_words : Result Verdict CertFault → List ℕ
 answer_words (Ok (Cut cost)) = codes "cut" ++ spaced_numbers (cost ∷ [])
 answer_words (Ok NoCut) = codes "none"

@@ -12,16 +12,17 @@ use Rattle.hls_commands.specs.Prefix.{IsPrefix}
 use Rattle.hls_commands.specs.CheckAnswer.{AnswerOf, check_line}
 use Rattle.hls_commands.specs.CheckRun.{AnswersStream}
 
--- the answer to a text; only a certificate's can be out of memory
+-- the answer to a text; only reading a certificate's text can run out of memory
 abbrev pub AnswersText : List ℕ → Result Verdict CertFault → Type 0
 AnswersText bytes (Err Memory) = IsCertificateText bytes
 AnswersText bytes answer = AnswerOf bytes answer
 
--- a stream's answer, or none if a read failed
+-- the answer to a stream, or none if a read failed
 abbrev pub IsStreamVerdict : List ℕ → List ℕ → Option (Result Verdict CertFault) → Type 0
 IsStreamVerdict stream rest None = Unit {0}
 IsStreamVerdict stream rest (Some answer) = AnswersStream stream rest answer
 
+-- some of the stream was read, and the answer is that of the whole stream; none is reported if a read failed
 pub record ReportsAnswer (stream : List ℕ) (left : Option (List ℕ)) (reported : Option (Result Verdict CertFault)) : Type 0 where
   pub taken : List ℕ
   pub rest : List ℕ
@@ -29,6 +30,7 @@ pub record ReportsAnswer (stream : List ℕ) (left : Option (List ℕ)) (reporte
   pub split : stream ≡ taken ++ rest
   pub reports : IsStreamVerdict stream rest reported
 
+-- a failed read was counted exactly if no answer is reported
 abbrev pub CountsReadFailures : Option (Result Verdict CertFault) → ℕ → ℕ → Type 0
 CountsReadFailures None old new = FailuresRose old new
 CountsReadFailures (Some answer) old new = new ≡ old
@@ -41,11 +43,13 @@ Prints (Err f) text Refused = text ≡ check_line (Err f)
 Prints answer text (WriteFailed reported) = (reported ≡ answer) × IsPrefix text (check_line answer)
 Prints answer text end = ⊥
 
+-- the answer's line, or a prefix of it, was written after what was held
 pub record PrintsAnswer (answer : Result Verdict CertFault) (held : List ℕ) (contents : Option (List ℕ)) (end : CheckEnd) : Type 0 where
   pub text : List ℕ
   pub contents_are : contents ≡ Some (held ++ text)
   pub prints : Prints answer text end
 
+-- a failed write was counted exactly if the end reports one
 abbrev pub CountsPrinting : CheckEnd → ℕ → ℕ → Type 0
 CountsPrinting (WriteFailed answer) old new = FailuresRose old new
 CountsPrinting ReadFailed old new = ⊥

@@ -9,19 +9,19 @@ use Rattle.hls_commands.specs.declared.check.run.CheckEnd.TheVariants.{Yes, Refu
 use Rattle.hls_commands.specs.Prefix.{IsPrefix}
 use Rattle.hls_commands.specs.CheckAnswer.{AnswerOf, check_line}
 
--- the answer to a whole stream, with nothing left to read; or out of memory during the reading
+-- the answer to a whole stream, with nothing left to read; or an allocation failed while it was read
 abbrev pub AnswersStream : List ℕ → List ℕ → Result Verdict CertFault → Type 0
 AnswersStream stream rest (Err Memory) = Unit {0}
 AnswersStream stream rest answer = (rest ≡ []) × AnswerOf stream answer
 
--- `rest` of the stream is left unread, and `text` is written; a failed write reports whose line it was
+-- `rest` of the stream is left unread, and `text` is written by how the run ended; a failed write reports the answer whose line it was
 abbrev pub AnswersCheck : List ℕ → List ℕ → List ℕ → CheckEnd → Type 0
 AnswersCheck stream rest text Yes = (verdict : Verdict) × AnswersStream stream rest (Ok verdict) × (text ≡ check_line (Ok verdict))
 AnswersCheck stream rest text Refused = (f : CertFault) × AnswersStream stream rest (Err f) × (text ≡ check_line (Err f))
 AnswersCheck stream rest text ReadFailed = text ≡ []
 AnswersCheck stream rest text (WriteFailed answer) = AnswersStream stream rest answer × IsPrefix text (check_line answer)
 
--- the bytes read from the stream and those left, and what was written after what was held
+-- a run of `check`: the bytes read from the stream and those left, and the text that was written after what was held
 pub record RunsCheck (stream held : List ℕ) (left contents : Option (List ℕ)) (end : CheckEnd) : Type 0 where
   pub taken : List ℕ
   pub rest : List ℕ

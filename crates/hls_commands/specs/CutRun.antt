@@ -21,13 +21,13 @@ use Rattle.hls_settings.specs.declared.cut_options_fault.CutOptionsFault.{CutOpt
 use Rattle.hls_settings.specs.Options.{CutOptionsData}
 use Rattle.hls_commands.specs.RecordedState.{state_of_stream}
 
--- the listing of the state's only recording
+-- the listing of the state's only recording, by the options
 pub record IsListing (choice : CutOptionsData) (s : State) (result : Result ListingOutput ListingFault) : Type 0 where
   pub recording : RecordingData
   pub begun : recording_of s 0 ≡ Some recording
   pub lists : ListsOf s recording choice.uri (listing_mode_of choice) result
 
--- the result of a recorded state, or of a refusal
+-- the listing of a recorded state, or the refusal of the stream
 abbrev pub IsListingOrFault : CutOptionsData → Result State StreamFault → Result ListingOutput CutFault → Type 0
 IsListingOrFault choice (Ok s) (Ok listed) = IsListing choice s (Ok listed)
 IsListingOrFault choice (Ok s) (Err (fault.Listing listing_fault.Memory)) = ⊥
@@ -36,19 +36,20 @@ IsListingOrFault choice (Ok s) (Err f) = ⊥
 IsListingOrFault choice (Err f) (Ok listed) = ⊥
 IsListingOrFault choice (Err f) (Err g) = g ≡ fault.Stream f
 
--- the result of a whole stream: the listing, or the first refusal in the stream's order
+-- the result for a whole stream: the listing, or the first refusal in the stream's order
 abbrev pub IsStreamListing : CutOptionsData → List ℕ → Result ListingOutput CutFault → Type 0
 IsStreamListing choice stream result = IsListingOrFault choice (state_of_stream (opening_of choice) stream) result
 
--- the refusal is that of the whole stream, or of what was read of it, whatever follows
+-- the refusal is that of the whole stream, or of the bytes that were read, whatever follows them
 abbrev pub EndsCut : CutOptionsData → CutFault → List ℕ → List ℕ → Type 0
 EndsCut choice f taken rest = ((rest ≡ []) × IsStreamListing choice taken (Err f)) ⊎ ((more : List ℕ) → IsStreamListing choice (taken ++ more) (Err f))
 
--- the bytes of the listing, and whether there is a plan
+-- the bytes of a listing
 abbrev pub bytes_of : ListingOutput → List ℕ
 bytes_of (Text text) = text.items
 bytes_of (NoCut text) = text.items
 
+-- whether a listing has a plan
 abbrev pub is_cut : ListingOutput → Bool
 is_cut (Text text) = true
 is_cut (NoCut text) = false
@@ -60,7 +61,7 @@ pub record WritesSome (choice : CutOptionsData) (stream rest text : List ℕ) : 
   pub outcome : IsStreamListing choice stream (Ok listed)
   pub beginning : IsPrefix text (bytes_of listed)
 
--- all of it is written
+-- the whole stream's listing is written completely
 pub record WritesAll (choice : CutOptionsData) (stream rest text : List ℕ) (cut : Bool) : Type 0 where
   pub whole : rest ≡ []
   pub listed : ListingOutput
@@ -68,7 +69,7 @@ pub record WritesAll (choice : CutOptionsData) (stream rest text : List ℕ) (cu
   pub text_is : bytes_of listed ≡ text
   pub cut_is : is_cut listed ≡ cut
 
--- `taken` was read from the stream, `rest` is left, and `text` is written
+-- what was read and written by how the run ended: `taken` was read from the stream, `rest` is left, and `text` is written
 abbrev pub AnswersCut : CutOptionsData → List ℕ → List ℕ → List ℕ → List ℕ → CutEnd → Type 0
 AnswersCut choice stream taken rest text end.Done = WritesAll choice stream rest text true
 AnswersCut choice stream taken rest text end.NoCut = WritesAll choice stream rest text false
@@ -78,14 +79,14 @@ AnswersCut choice stream taken rest text (end.Refused fault.ReadFailed) = (text 
 AnswersCut choice stream taken rest text (end.Refused fault.WriteFailed) = WritesSome choice stream rest text
 AnswersCut choice stream taken rest text (end.Refused f) = (text ≡ []) × EndsCut choice f taken rest
 
--- for invalid arguments the first invalid one is reported, and nothing is read or written; else the result is that of the options
+-- what is read and written by the arguments: invalid ones are reported, and nothing is read or written; else it is by the options
 abbrev pub AnswersWords : Result CutOptionsData CutOptionsFault → List ℕ → List ℕ → List ℕ → List ℕ → CutEnd → Type 0
 AnswersWords (Err f) stream taken rest text (end.Usage g) = (f ≡ g) × (taken ≡ []) × (text ≡ [])
 AnswersWords (Err f) stream taken rest text (end.Refused fault.Memory) = (taken ≡ []) × (text ≡ [])
 AnswersWords (Err f) stream taken rest text e = ⊥
 AnswersWords (Ok choice) stream taken rest text e = AnswersCut choice stream taken rest text e
 
--- the bytes read from the stream and those left, and what was written after what was held
+-- a run of `cut`: the bytes read from the stream and those left, and the text that was written after what was held
 pub record RunsCut (choice : Result CutOptionsData CutOptionsFault) (stream held : List ℕ) (left contents : Option (List ℕ)) (ending : CutEnd) : Type 0 where
   pub taken : List ℕ
   pub rest : List ℕ
@@ -107,6 +108,7 @@ IsUsageFault (end.Usage f) choice = choice ≡ Err f
 IsUsageFault (end.Refused fault.Memory) choice = Unit {0}
 IsUsageFault e choice = is_ok choice ≡ true
 
+-- whether the run ended for invalid arguments
 abbrev pub is_usage : CutEnd → Bool
 is_usage (end.Usage f) = true
 is_usage e = false

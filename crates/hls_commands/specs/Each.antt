@@ -33,17 +33,17 @@ consecutive_segments epoch recorded uri places = plan_segments (job_layout epoch
 abbrev pub ReachesNext : ℕ → List (List Spot) → ℕ → Type 0
 ReachesNext target places i = IsPlaceStep target (place_at places i) (place_at places (i + 1))
 
--- and so from each place except the last
+-- one segment may reach from each place except the last to the next
 abbrev pub AllReachNext : ℕ → List (List Spot) → Type 0
 AllReachNext target places = (i : ℕ) → i + 1 < length places → ReachesNext target places i
 
--- the first place that can't reach the next
+-- place i is the first from which no segment may reach the next
 pub record IsFirstRefused (target : ℕ) (places : List (List Spot)) (i : ℕ) : Type 0 where
   pub within : i + 1 < length places
   pub refused : ReachesNext target places i → ⊥
   pub before : (k : ℕ) → k < i → ReachesNext target places k
 
--- the playlist's text, if each place reaches the next; memory may only run out in its place
+-- the playlist's text, if each place reaches the next; else the first place that doesn't. An allocation failure may only take the text's place
 abbrev pub ListsEach : ℕ → Option ℤ → RecordingData → List (List Spot) → List ℕ → Result ListingOutput ListingFault → Type 0
 ListsEach target epoch recorded places uri (Ok (Text text)) =
     (2 ≤ length places) × AllReachNext target places × IsWritten (plan_list target epoch recorded uri places (full_plan places)) text.items

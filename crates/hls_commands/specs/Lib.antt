@@ -1,3 +1,5 @@
+-- The contracts of the commands `cut`, `check`, `lint` and `explain`: what a run reads, writes and returns, the names of their faults,
+-- and what their parts pass to each other.
 pub mod MemoryCases
 pub mod Prefix
 pub mod Channel

@@ -17,18 +17,19 @@ use Rattle.hls_commands.specs.LintAnswer.{lint_line}
 abbrev pub held_bytes : ℕ
 held_bytes = text_limit + 1
 
--- the line of a text that is a playlist, or why it is none
+-- the line about a text that is a playlist, or why the text is none
 abbrev pub IsLine : List ℕ → Result (Vec ℕ Global) ListFault → Type 0
 IsLine text (Ok line) = (list : Playlist) × (reading_of text ≡ Ok list) × (line.items ≡ lint_line (Ok list))
 IsLine text (Err Memory) = Unit {0}
 IsLine text (Err f) = reading_of text ≡ Err f
 
--- the line of a stream with nothing left to read; none if a read failed
+-- the line about a stream with nothing left to read; none if a read failed
 abbrev pub IsStreamLine : List ℕ → List ℕ → Option (Result (Vec ℕ Global) ListFault) → Type 0
 IsStreamLine stream rest None = Unit {0}
 IsStreamLine stream rest (Some (Err Memory)) = Unit {0}
 IsStreamLine stream rest (Some line) = (rest ≡ []) × IsLine stream line
 
+-- some of the stream was read, and this is the line about the whole stream; none is reported if a read failed
 pub record ReportsLine (stream : List ℕ) (left : Option (List ℕ)) (reported : Option (Result (Vec ℕ Global) ListFault)) : Type 0 where
   pub taken : List ℕ
   pub rest : List ℕ
@@ -36,16 +37,17 @@ pub record ReportsLine (stream : List ℕ) (left : Option (List ℕ)) (reported 
   pub split : stream ≡ taken ++ rest
   pub reports : IsStreamLine stream rest reported
 
+-- a failed read was counted exactly if no line is reported
 abbrev pub CountsReadFailures : Option (Result (Vec ℕ Global) ListFault) → ℕ → ℕ → Type 0
 CountsReadFailures None old new = FailuresRose old new
 CountsReadFailures (Some line) old new = new ≡ old
 
--- the bytes of a line
+-- the bytes of a line, whether it is about a playlist or a refusal
 abbrev pub line_bytes : Result (Vec ℕ Global) ListFault → List ℕ
 line_bytes (Ok line) = line.items
 line_bytes (Err f) = lint_line (Err f)
 
--- the end after they are written
+-- how a run ends after its line is written
 abbrev pub lint_end_of : Result (Vec ℕ Global) ListFault → LintEnd
 lint_end_of (Ok line) = Readable
 lint_end_of (Err f) = Refused
@@ -54,10 +56,12 @@ lint_end_of (Err f) = Refused
 abbrev pub WritesText : List ℕ → LintEnd → List ℕ → LintEnd → Type 0
 WritesText whole done text end = ((end ≡ done) × (text ≡ whole)) ⊎ ((end ≡ WriteFailed) × IsPrefix text whole)
 
+-- the whole text, or a prefix of it up to a failed write, was written after what was held
 pub record PrintsText (whole : List ℕ) (done : LintEnd) (held : List ℕ) (contents : Option (List ℕ)) (end : LintEnd) : Type 0 where
   pub text : List ℕ
   pub contents_are : contents ≡ Some (held ++ text)
   pub writes : WritesText whole done text end
 
+-- a failed write was counted exactly if the end reports one
 abbrev pub CountsText : LintEnd → LintEnd → ℕ → ℕ → Type 0
 CountsText done end old new = ((end ≡ done) × (new ≡ old)) ⊎ ((end ≡ WriteFailed) × FailuresRose old new)

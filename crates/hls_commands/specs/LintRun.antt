@@ -10,19 +10,19 @@ use Rattle.hls_commands.specs.declared.lint.run.LintEnd.TheVariants.{Readable, R
 use Rattle.hls_commands.specs.Prefix.{IsPrefix}
 use Rattle.hls_commands.specs.LintAnswer.{lint_line}
 
--- what a whole stream is read as, with nothing left to read; or out of memory
+-- the reading of a whole stream, with nothing left to read; or an allocation failed
 abbrev pub AnswersStream : List ℕ → List ℕ → Result Playlist ListFault → Type 0
 AnswersStream stream rest (Err Memory) = Unit {0}
 AnswersStream stream rest answer = (rest ≡ []) × (reading_of stream ≡ answer)
 
--- `rest` of the stream is left unread, and `text` is written
+-- `rest` of the stream is left unread, and `text` is written, by how the run ended
 abbrev pub AnswersLint : List ℕ → List ℕ → List ℕ → LintEnd → Type 0
 AnswersLint stream rest text Readable = (list : Playlist) × AnswersStream stream rest (Ok list) × (text ≡ lint_line (Ok list))
 AnswersLint stream rest text Refused = (f : ListFault) × AnswersStream stream rest (Err f) × (text ≡ lint_line (Err f))
 AnswersLint stream rest text ReadFailed = text ≡ []
 AnswersLint stream rest text WriteFailed = (answer : Result Playlist ListFault) × AnswersStream stream rest answer × IsPrefix text (lint_line answer)
 
--- the bytes read from the stream and those left, and what was written after what was held
+-- a run of `lint`: the bytes read from the stream and those left, and the text that was written after what was held
 pub record RunsLint (stream held : List ℕ) (left contents : Option (List ℕ)) (end : LintEnd) : Type 0 where
   pub taken : List ℕ
   pub rest : List ℕ

@@ -19,11 +19,11 @@ pub record IsSingle (s : State) : Type 0 where
   pub one : length s.config.renditions ≡ 1
   pub begun : IsSome (recording_of s 0)
 
--- all places, as a table has them
+-- all places of a channel, as a table has them
 abbrev pub all_places : State → List (List Spot)
 all_places s = spots_of (places s)
 
--- the charge for a segment is at most an hour
+-- the listing mode's charge for a segment, if it has one, is at most an hour
 abbrev pub CanList : ListingMode → Type 0
 CanList Each = Unit {0}
 CanList (Planned rule certificate) = charge_of rule ≤ charge_limit

@@ -10,7 +10,7 @@ IsDefinedOrMemory defined new (Ok done) = defined ≡ Ok new
 IsDefinedOrMemory defined new (Err (Refused f)) = defined ≡ Err f
 IsDefinedOrMemory defined new (Err Memory) = Unit {0}
 
--- a value that was read, the defined refusal, or out of memory
+-- the value that was read is the defined one, or the refusal is; or an allocation failed
 abbrev pub IsReadOrMemory : {A : Type 0} → Result A StreamFault → Result A FeedFault → Type 0
 IsReadOrMemory defined (Ok a) = defined ≡ Ok a
 IsReadOrMemory defined (Err (Refused f)) = defined ≡ Err f

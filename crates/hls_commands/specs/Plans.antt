@@ -18,13 +18,13 @@ pub record IsGoodText (t : Table) (shown : ClaimData) (bytes : List ℕ) : Type 
   pub good : IsGood (record { table = t; shown = shown })
   pub is : bytes ≡ text (record { table = t; shown = shown })
 
--- the playlist by a least plan
+-- the text of the playlist by a least plan
 pub record IsLeastPlaylist (t : Table) (epoch : Option ℤ) (recorded : RecordingData) (uri : List ℕ) (bytes : List ℕ) : Type 0 where
   pub plan : List ℕ
   pub least : IsLeast t plan
   pub written : IsWritten (plan_list t.goal.target epoch recorded uri t.places plan) bytes
 
--- the certificate of a least plan, with its cost and prices
+-- the text of the certificate of a least plan, with its cost and prices
 pub record IsLeastCertificate (t : Table) (bytes : List ℕ) : Type 0 where
   pub plan : List ℕ
   pub cost : ℕ
@@ -32,7 +32,7 @@ pub record IsLeastCertificate (t : Table) (bytes : List ℕ) : Type 0 where
   pub least : IsLeast t plan
   pub text : IsGoodText t (CutClaim cost plan prices) bytes
 
--- the certificate that there is no plan
+-- the text of the certificate that the table has no plan
 pub record IsNoPlanCertificate (t : Table) (bytes : List ℕ) : Type 0 where
   pub closed : List Bool
   pub text : IsGoodText t (NoneClaim closed) bytes
@@ -47,17 +47,17 @@ abbrev pub IsNoPlanText : Bool → Table → List ℕ → Type 0
 IsNoPlanText true t bytes = IsNoPlanCertificate t bytes
 IsNoPlanText false t bytes = bytes ≡ []
 
--- a least plan's playlist, or nothing
+-- the listing is the playlist by a least plan, or empty if there is no plan
 abbrev pub IsPlanPlaylist : Table → Option ℤ → RecordingData → List ℕ → ListingOutput → Type 0
 IsPlanPlaylist t epoch recorded uri (Text bytes) = IsLeastPlaylist t epoch recorded uri bytes.items
 IsPlanPlaylist t epoch recorded uri (NoCut bytes) = HasNoPlan t × (bytes.items ≡ [])
 
--- a certificate
+-- the listing is the certificate of a least plan, or that there is none
 abbrev pub IsPlanCertificate : Table → ListingOutput → Type 0
 IsPlanCertificate t (Text bytes) = IsLeastCertificate t bytes.items
 IsPlanCertificate t (NoCut bytes) = HasNoPlan t × IsNoPlanCertificate t bytes.items
 
--- the number of places is that of a table
+-- the number of places is allowed in a table
 abbrev pub HasTable : Table → Type 0
 HasTable t = (2 ≤ length t.places) × (length t.places ≤ place_limit)
 

@@ -11,17 +11,17 @@ abbrev pub kept_bytes : Option ℕ → List ℕ → List ℕ
 kept_bytes None bytes = bytes
 kept_bytes (Some most) bytes = take most bytes
 
--- how many of `len` more bytes are held after `held` ones
+-- how many of `len` more bytes are held if `held` bytes are held already
 abbrev pub held_len : Option ℕ → ℕ → ℕ → ℕ
 held_len None held len = len
 held_len (Some most) held len = min (most - held) len
 
--- a text was read completely, with nothing left of the stream; or a part of it
+-- the text was read completely, with nothing left of the stream; or a fault ended the reading
 abbrev pub ReadsOf : Option ℕ → List ℕ → List ℕ → Result (Vec ℕ Global) ReadFault → Type 0
 ReadsOf most taken rest (Ok bytes) = (rest ≡ []) × (bytes.items ≡ kept_bytes most taken)
 ReadsOf most taken rest (Err f) = Unit {0}
 
--- the bytes read and the bytes left make up the stream
+-- some of the stream was read, with this result; the bytes read and the bytes left make up the stream
 pub record Reads (most : Option ℕ) (stream : List ℕ) (left : Option (List ℕ)) (result : Result (Vec ℕ Global) ReadFault) : Type 0 where
   pub taken : List ℕ
   pub rest : List ℕ

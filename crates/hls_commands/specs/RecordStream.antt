@@ -8,19 +8,19 @@ use Rattle.hls_commands.specs.declared.cut.fault.CutFault.TheVariants as fault
 use Rattle.hls_io.specs.Failures.{FailuresRose}
 use Rattle.hls_commands.specs.RecordedState.{PartYields, state_at_end, state_of_stream}
 
--- nothing of what was read is refused yet
+-- nothing in the bytes that were read is refused yet
 abbrev pub IsOpen : State → List ℕ → Type 0
 IsOpen opening taken = (s : State) × IsTaken PartYields opening taken s
 
--- this is the refusal of what was read, whatever follows
+-- this is the refusal of a stream that begins with the bytes that were read, whatever follows
 abbrev pub IsRefused : State → List ℕ → StreamFault → Type 0
 IsRefused opening taken f = (more : List ℕ) → state_of_stream opening (taken ++ more) ≡ Err f
 
--- at the end of the stream, or whatever follows what was read
+-- this is the refusal of the whole stream, or of a stream that begins with the bytes that were read
 abbrev pub EndsReading : State → StreamFault → List ℕ → List ℕ → Type 0
 EndsReading opening f taken rest = ((rest ≡ []) × (state_of_stream opening taken ≡ Err f)) ⊎ IsRefused opening taken f
 
--- the result of reading `taken`, with `rest` left and the state s
+-- the result of recording `taken` from an opening state, with `rest` left and the state s reached
 abbrev pub RecordsRead : State → List ℕ → List ℕ → State → Result (Unit {0}) CutFault → Type 0
 RecordsRead opening taken rest s (Ok done) = (rest ≡ []) × (state_of_stream opening taken ≡ state_at_end s)
 RecordsRead opening taken rest s (Err (fault.Stream f)) = EndsReading opening f taken rest
@@ -28,7 +28,7 @@ RecordsRead opening taken rest s (Err fault.ReadFailed) = IsOpen opening taken
 RecordsRead opening taken rest s (Err fault.Memory) = Unit {0}
 RecordsRead opening taken rest s (Err f) = ⊥
 
--- the bytes read and the bytes left make up the stream
+-- some of the stream was recorded, with this result; the bytes read and the bytes left make up the stream
 pub record RecordsStream (opening : State) (stream : List ℕ) (left : Option (List ℕ)) (s : State) (result : Result (Unit {0}) CutFault) : Type 0 where
   pub taken : List ℕ
   pub rest : List ℕ

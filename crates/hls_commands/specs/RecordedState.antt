@@ -30,38 +30,38 @@ state_by_outcome (Refused r) new old = Err (fault.Core r)
 abbrev pub state_after : State → Event → Result State StreamFault
 state_after s event = state_by_outcome (outcome_of s event) (state_with_entry s 0 event) s
 
--- one more unit; its facts are those under the init section
+-- the state after one more unit, whose facts are read under the rendition's init section
 abbrev pub with_unit : Option RecordingData → State → List ℕ → Result State StreamFault
 with_unit None s bytes = Err (fault.Core refusal.NoInit)
 with_unit (Some recorded) s bytes = or_refused_as fault.Media (facts recorded.init bytes) >>= (λ f. state_after s (Accept 0 f bytes))
 
--- one more part of the only rendition
+-- the state after one more part of the only rendition
 unfoldable pub with_part : State → Part → Result State StreamFault
 with_part s (parts.Init bytes) = or_refused_as fault.Media (init_of bytes) >>= (λ init. state_after s (Begin 0 init bytes))
 with_part s (parts.Unit bytes) = with_unit (recording_of s 0) s bytes
 
--- the result of a part that is given to the recorder
+-- the result of a part that is given to the recorder, by the state after it
 abbrev pub PartYields : State → Part → State → Result (Unit {0}) FeedFault → Type 0
 PartYields s part t result = IsDefinedOrMemory (with_part s part) t result
 
--- the parts, one after the other
+-- the state after parts, one after another, or the first refusal
 unfoldable pub with_parts : State → List Part → Result State StreamFault
 with_parts s [] = Ok s
 with_parts s (p ∷ ps) = with_part s p >>= (λ next. with_parts next ps)
 
--- the end of a stream: there are no further units
+-- the state at the end of a stream, when the rendition is finished
 unfoldable pub state_at_end : State → Result State StreamFault
 state_at_end s = state_after s (Finish 0)
 
--- the end, unless the stream ends inside a part
+-- the state at the end of a stream, unless the stream ends inside a part
 abbrev pub state_unless_left : State → Option BoxFault → Result State StreamFault
 state_unless_left s (Some f) = Err (fault.Boxes f)
 state_unless_left s None = state_at_end s
 
--- the result of the parts and the end from an opening state: the state, or the first refusal in the stream's order
+-- the state that a stream's parts and its end lead to from an opening state, or the first refusal in the stream's order
 unfoldable pub state_of : State → StreamCut → Result State StreamFault
 state_of opening c = with_parts opening c.parts >>= (λ s. state_unless_left s (fault_at_end c.left))
 
--- the result of a whole stream
+-- the state that a whole stream leads to, or its first refusal
 abbrev pub state_of_stream : State → List ℕ → Result State StreamFault
 state_of_stream opening stream = state_of opening (stream_cut stream)

@@ -2,113 +2,133 @@
 
 /// What each name means and what to change, in the order of the names. The last line has no line feed.
 pub const MEANINGS: &str = "\
-AfterRecording: the stop is behind the last place, and all renditions are finished. Ask for a stop up to the recording's end.
-AheadOfChannel: with serve --mend, a unit begins more than --fill after the newest end of all renditions while others continue: the \
-clock of its encoder is wrong. Set the clock; a channel whose encoders all jump continues by itself, after a discontinuity.
-BadBox: a box of an init or a unit isn't as ISO/IEC 14496-12 has it: its children don't fill it, a field lies past its end, \
-a box is missing or stands twice, its version isn't known. Send the stream just as the encoder wrote it; if it was, change the encoder.
-BadCharge: the charge for a segment is above 3600000000. Give 0 to that, in microseconds, or none.
-BadEpoch: the instant of time 0 is before 1970 or after 9000-01-01T00:00:00Z. Give one between, as in 2024-01-01T00:00:00Z.
-BadFraming: the length of a request's body isn't certain (Content-Length and Transfer-Encoding at once, two lengths, another \
-coding than chunked), or its chunks break the grammar. Send one length or chunks; look at what a proxy in between changes.
-BadHead: what came isn't the head of an HTTP request, or one of HTTP/1.1 without exactly one Host. Look at the client: it may \
-speak TLS to this port.
-BadMethod: the path is known, but not with this method. The reply's Allow says which it has.
-BadPreferred: the preferred length is 0 or longer than the target. Give 1 to the target, in microseconds.
-BadQuery: a catch-up request needs from and to, and may have preferred and charge, each 1 to 16 digits, in microseconds; where \
-serve was given --epoch, from and to may be instants. Ask as in /catchup?from=0&to=8000000, or as in \
+AfterRecording: the stop is after the last place, and all renditions are finished. Request a stop within the recording.
+AheadOfChannel: with serve --mend, a fragment starts more than --fill after the newest end of all renditions, while the other \
+renditions continue: its encoder's clock is wrong. Set the clock. If the clocks of all encoders jump, the channel continues by \
+itself, after a discontinuity.
+BadBox: a box of an init section or of a fragment breaks ISO/IEC 14496-12: its children don't fill it, a field lies past its \
+end, a required box is missing or repeated, or its version is unknown. Send the stream exactly as the encoder wrote it; if you \
+did, change the encoder.
+BadCharge: the charge for a segment is above 3600000000. Give 0 to 3600000000 microseconds, or none.
+BadEpoch: the instant of time 0 is before 1970 or after 9000-01-01T00:00:00Z. Give one in between, for example \
+2024-01-01T00:00:00Z.
+BadFraming: the length of a request's body is ambiguous (Content-Length together with Transfer-Encoding, two different \
+lengths, a transfer coding other than chunked), or its chunks are malformed. Send one Content-Length, or chunks; check what a \
+proxy in between changes.
+BadHead: the bytes received aren't the head of an HTTP request, or an HTTP/1.1 request doesn't have exactly one Host field. \
+Check the client: it may use TLS on this port.
+BadMethod: the path doesn't support this method. The response's Allow field lists the methods that it supports.
+BadPreferred: the preferred length is 0 or longer than the target duration. Give 1 to the target, in microseconds.
+BadQuery: a catch-up request needs from and to, and may have preferred and charge, each a number of 1 to 16 digits, in \
+microseconds. If serve was started with --epoch, from and to may be instants. Examples: /catchup?from=0&to=8000000, or \
 /catchup?from=2024-01-01T20:00:00Z&to=2024-01-01T21:00:00%2B00:00, with %2B for a plus sign.
-BadRange: the start isn't before the stop. Ask for a stop behind the start.
-BadRendition: no rendition, more than 16, or one whose name, bandwidth or tolerance is outside its limits or whose name stands \
-twice. Give each as name:kind:bandwidth:tolerance, as in v720:video:3000000:0.
-BadSize: a box is smaller than its own header. The stream is damaged, or doesn't begin with a box: send it from its beginning.
-BadTag: a line of a playlist is a tag with a wrong value, stands twice or too late, or isn't read here (keys, master \
-playlists). The number behind the name is the line's, from 1.
-BadTarget: the target duration isn't 1 to 3600 whole seconds. Give one that is.
-BaseOffset: a unit says where its samples are by their place in a whole file (base_data_offset of tfhd). Let the encoder count \
-from the moof: -movflags +default_base_moof, which +cmaf has.
-BeforeEpoch: from or to is an instant before the epoch, the instant of time 0 that serve was given. Ask for a later one; look at \
-its offset, and at --epoch.
-BeforeRecording: no kept place is at or before the start: it is before the recording, or was trimmed. Ask for a later start, \
+BadRange: the start isn't before the stop. Request a stop after the start.
+BadRendition: there is no rendition, there are more than 16, or one has a name, bandwidth or tolerance outside its limits, or \
+a name that is already used. Give each as name:kind:bandwidth:tolerance, for example v720:video:3000000:0.
+BadSize: a box is smaller than its own header. The stream is damaged, or doesn't start with a box: send it from the beginning.
+BadTag: a line of a playlist is a tag that has an invalid value, is repeated, comes too late, or isn't supported (keys, master \
+playlists). The number after the name is the line's, counted from 1.
+BadTarget: the target duration isn't a whole number of seconds from 1 to 3600. Give one that is.
+BaseOffset: a fragment locates its samples by their offset in a whole file (base_data_offset in tfhd). Configure the encoder \
+to count from the moof: -movflags +default_base_moof, which +cmaf includes.
+BeforeEpoch: from or to is an instant before the epoch, the instant of time 0 that was given to serve. Request a later one; \
+check its UTC offset, and --epoch.
+BeforeRecording: no kept place is at or before the start: it is before the recording, or was trimmed. Request a later start, \
 or keep more (--keep).
-BindFailed: the address of serve can't be listened on: another program has the port, the host hasn't the address, or the port \
-needs other rights. Give another address.
-Conflict: what was asked for isn't there yet. Ask again later.
-DataOutside: a sample's bytes lie outside the mdat of its unit. The stream was edited, or its encoder writes wrong offsets: \
-send it as it was written.
-EmptyFragment: a unit has no sample of the timing track, or begins and ends on one microsecond. Let the encoder write longer fragments.
-EndReached: a certificate that there is no plan has the last place in its closed set, so it doesn't show that. Make it anew; \
-don't trust who made it.
-Ended: the live line has ended, and takes no further place. Nothing is to be done.
-Finished: the rendition was finished, and takes no new unit. Record on in another channel; finish only at the very end.
-Form: a certificate's text isn't as it must be. The number behind the name is the first wrong line, from 1; a line that is \
-missing counts. Make it anew, with LF at the end of each line.
-Full: a recording would pass 2^40 bytes, or a store is full. Start another channel.
-Gone: a byte of what was asked for was trimmed. Read the playlist anew, or keep more (--keep).
-HeadTooLarge: the head of a request has more than 16384 bytes or 64 fields. Send fewer or shorter ones; cookies are the most likely.
-InitChanged: another init section came than the rendition has: codec, size or timescale changed, or another encoder sends. \
-With serve --mend, one that differs only in bit rates, times, names and metadata is a repeat. Give the encoder its old settings; for \
-new ones begin an empty channel by hls_channel anew NAME or serve --anew, and restart its encoders: its lists continue after a \
-discontinuity.
+BindFailed: serve can't listen on the address: another program uses the port, the host doesn't have the address, or the port \
+requires other privileges. Give another address.
+Conflict: what was requested doesn't exist yet. Try again later.
+DataOutside: a sample's bytes lie outside the mdat of its fragment. The stream was edited, or its encoder writes wrong \
+offsets: send it as it was written.
+EmptyFragment: a fragment has no sample of the timing track, or starts and ends in the same microsecond. Configure the encoder \
+to write longer fragments.
+EndReached: a certificate that claims that there is no plan has the last place in its closed set, so it proves nothing. Make a \
+new certificate, and don't trust the source of this one.
+Ended: the live line has ended, and takes no more places. Nothing needs to be done.
+Finished: the rendition is finished, and takes no more fragments. Continue in another channel; finish a rendition only at the \
+very end.
+Form: the text of a certificate is malformed. The number after the name is that of the first wrong line, counted from 1; a \
+missing line counts. Make a new certificate, with LF at the end of each line.
+Full: a recording would exceed 2^40 bytes, or a store is full. Start another channel.
+Gone: a byte of the requested range was trimmed. Reload the playlist, or keep more (--keep).
+HeadTooLarge: the head of a request has more than 16384 bytes or 64 fields. Send fewer or shorter fields; cookies are the \
+likely cause.
+InitChanged: an init section came that differs from the rendition's: the codec, size or timescale changed, or another encoder \
+is sending. With serve --mend, one that differs only in bit rates, times, names and metadata counts as a repeat. Restore the \
+encoder's settings. For new settings start an empty channel with hls_channel anew NAME or serve --anew, and restart its \
+encoders: its playlists continue after a discontinuity.
 LedgerFull: the log has 4194304 entries, and takes no more. Start another process and point the encoders to it; fewer, longer \
-fragments fill it later.
-MdatAlone: an mdat comes without a moof before it: the file isn't fragmented, or holds samples before its first moof. Write it \
+fragments fill the log more slowly. With serve --journal the log is replaced before it is full.
+MdatAlone: an mdat comes without a moof before it: the file isn't fragmented, or has samples before its first moof. Write it \
 with -movflags +frag_keyframe+delay_moov+default_base_moof.
-Memory: memory was wanted and refused; the refused call changed nothing. Give the process more, keep less (--keep), and ask again.
-MissingTag: a playlist has no EXT-X-TARGETDURATION, a URI without EXTINF, or an EXTINF without URI. It may be cut short: let \
-its maker write it whole.
-MoofWithoutMdat: a moof or moov comes before the mdat of the moof before it. Bytes are missing: send the stream as it was written.
-NoCut: no plan has each segment within the target, so there is no playlist. Give a longer --target, or let the encoder write \
-sync samples more often.
-NoDecodeTime: a unit doesn't say when it begins (no tfdt), as in ismv and isml. Let the encoder write CMAF or plain fragmented MP4.
-NoDefault: a sample's duration or size, or the first one's flags, stand neither in trun nor in tfhd nor in trex. Change the encoder.
-NoInit: a unit or the end came before any init section (ftyp, moov). Send the stream from its beginning.
-NoPlace: there are less than two places where the stream may be cut. Record longer, and let units begin with sync samples.
-NoTimingTraf: a unit has nothing of the timing track, which is the first video track, else the first track: each track has its \
-own moof. Send each track to a rendition of its own.
-NoTrack: the init section has no track. Send the encoder's own.
-NotAllowed: no segment may reach from one place to the next; the number behind the name is the first one's, from 0. The time \
-between them doesn't fit the target, or a gap lies inside: give a longer --target, or let the encoder write sync samples more often.
-NotFound: the path, the rendition or the job isn't known, or has nothing yet. docs/HTTP.md has the paths; a live list stands \
-as soon as a segment is closed.
-NotM3u: the first line isn't #EXTM3U, so this is no playlist. It may be a server's page that says why.
-NotYet: the stop is behind the last place, and the recording goes on. Ask again later, or for an earlier stop.
-OpenEnded: a box has size 0 and so reaches to the end of the file, which a live stream hasn't. Let the encoder write sizes.
-Outside: a range ends before it begins, or past the recording's end. Ask for bytes within it.
-Overlap: a unit starts before the end of the one before it, and isn't one that came already. After a restart keep the clock \
-(ffmpeg: +frag_discont and -output_ts_offset), and let one encoder alone send to a rendition.
-PlanCost: a certificate's cost isn't its plan's, or not the last place's price. Make it anew; don't trust who made it.
-PlanEnds: a certificate's plan doesn't begin with place 0 or end with the last. Make it anew; don't trust who made it.
-PlanStep: a certificate's plan has a step that isn't allowed; the numbers behind the name are its places. Make it anew; don't \
-trust who made it.
-PriceStart: in a certificate place 0 hasn't price 0, or isn't in the closed set. Make it anew; don't trust who made it.
-PriceStep: an allowed step shows that a certificate's prices or its closed set prove nothing; the numbers behind the name are \
-its places. Make it anew; don't trust who made it.
-ProgrammeTooLong: more than 16384 places lie between start and stop. Ask for less at a time, or cut without --preferred.
-RangeOutside: the range begins at or past the end, or asks for the last 0 bytes. The reply's Content-Range has the length.
-ReadFailed: standard input couldn't be read to its end. Look at what feeds it.
-RecordingFull: the init section and all units of a rendition would pass 2^40 bytes. Start another channel.
-SlideTooMany: the live line was to give up no segment, or more than it keeps. Nothing is to be done.
-SlideTooShort: the live line was to give up so much that a rendition would keep less than three targets. Nothing is to be done.
-Stray: the result of a job that doesn't run, or runs for another version or request. Nothing is to be done.
-TableFull: no place for a job is free: 64 stand. Remove one (DELETE /job/<id>), and ask again.
-TableNotSorted: in a certificate's table a place doesn't come after the one before it, or its times are crossed; the number \
-behind the name is the place's. Make it anew; don't trust who made it.
-TimeTooLarge: a unit's time is past 2^53 microseconds or 2^64 ticks; mostly its decode time is negative. Shift it (ffmpeg: \
--output_ts_offset 0.0213334 for AAC at 48 kHz).
-TooLarge: an init of more than 1048576 bytes, a unit of more than 67108864, or a request's body of more than 65536 that isn't \
-a stream. Write shorter fragments.
-TooLong: a playlist has more than 16777216 bytes or 131072 segments. Read one of a shorter window.
-TooMany: the live line was to give up no segment, or more than it keeps. Nothing is to be done.
+Memory: an allocation failed; the refused call changed nothing. Give the process more memory, or keep less (--keep), and try \
+again.
+MissingTag: a playlist has no EXT-X-TARGETDURATION, a URI without EXTINF, or an EXTINF without a URI. It may be truncated: \
+write it completely.
+MoofWithoutMdat: a moof or moov comes before the mdat of the previous moof. Bytes are missing: send the stream as it was \
+written.
+NoCut: no plan has every segment within the target duration, so there is no playlist. Give a longer --target, or configure the \
+encoder to write sync samples (keyframes) more often.
+NoDecodeTime: a fragment has no decode time (tfdt), as in ismv and isml. Configure the encoder to write CMAF or plain \
+fragmented MP4.
+NoDefault: a sample's duration or size, or the first sample's flags, are in none of trun, tfhd and trex. Change the encoder.
+NoInit: a fragment or the end of the stream came before an init section (ftyp, moov). Send the stream from the beginning.
+NoPlace: there are fewer than two places where the stream can be cut. Record longer, and start fragments with sync samples \
+(keyframes).
+NoTimingTraf: a fragment has no traf of the timing track, which is the first video track, or else the first track: each track \
+has a moof of its own. Send each track to a rendition of its own.
+NoTrack: the init section has no track. Send the encoder's own init section.
+NotAllowed: no segment may reach from one place to the next; the number after the name is the first place's, counted from 0. \
+The time between them doesn't fit the target duration, or there is a gap between them. Give a longer --target, or configure \
+the encoder to write sync samples (keyframes) more often.
+NotFound: the path, the rendition or the job is unknown, or has nothing yet. docs/HTTP.md lists the paths; a live playlist \
+exists once a segment is closed.
+NotM3u: the first line isn't #EXTM3U, so this is no playlist. It may be a server's error page that says why.
+NotYet: the stop is after the last place, and the recording continues. Try again later, or request an earlier stop.
+OpenEnded: a box has size 0, so it extends to the end of the file, and a live stream has none. Configure the encoder to write \
+sizes.
+Outside: a range ends before it starts, or past the end of the recording. Request bytes within the recording.
+Overlap: a fragment starts before the end of the previous one, and isn't a retransmission. Keep the clock when an encoder \
+restarts (ffmpeg: +frag_discont and -output_ts_offset), and let only one encoder send to a rendition.
+PlanCost: the cost in a certificate isn't that of its plan, or isn't the price of the last place. Make a new certificate, and \
+don't trust the source of this one.
+PlanEnds: the plan in a certificate doesn't start at place 0, or doesn't end at the last place. Make a new certificate, and \
+don't trust the source of this one.
+PlanStep: the plan in a certificate has a step that isn't allowed; the numbers after the name are its places. Make a new \
+certificate, and don't trust the source of this one.
+PriceStart: in a certificate, place 0 doesn't have the price 0, or isn't in the closed set. Make a new certificate, and don't \
+trust the source of this one.
+PriceStep: an allowed step shows that the prices or the closed set of a certificate prove nothing; the numbers after the name \
+are its places. Make a new certificate, and don't trust the source of this one.
+ProgrammeTooLong: there are more than 16384 places between start and stop. Request less at a time, or cut without --preferred.
+RangeOutside: the range starts at or after the end, or requests the last 0 bytes. The response's Content-Range field has the \
+length.
+ReadFailed: standard input couldn't be read to the end. Check what writes to it.
+RecordingFull: the init section and all fragments of a rendition would exceed 2^40 bytes. Start another channel.
+SlideTooMany: a slide would remove no segment, or more than the live line has. Nothing needs to be done.
+SlideTooShort: a slide would leave a rendition less than three target durations. Nothing needs to be done.
+Stray: a result came for a job that isn't running, or is running for another version or request. Nothing needs to be done.
+TableFull: all 64 places for jobs are taken. Delete a job (DELETE /job/<id>), and try again.
+TableNotSorted: in a certificate's table, a place doesn't come after the previous one, or its times are out of order; the \
+number after the name is the place's. Make a new certificate, and don't trust the source of this one.
+TimeTooLarge: a fragment's time exceeds 2^53 microseconds or 2^64 ticks; usually its decode time is negative. Shift the times \
+(ffmpeg: -output_ts_offset 0.0213334 for AAC at 48 kHz).
+TooLarge: an init section has more than 1048576 bytes, a fragment more than 67108864, or the body of a request that isn't a \
+stream more than 65536. Write shorter fragments.
+TooLong: a playlist has more than 16777216 bytes or 131072 segments. Use the playlist of a shorter window.
+TooMany: a slide would remove no segment, or more than the live line has. Nothing needs to be done.
 TooManyTracks: the init section has more than 8 tracks. Send each track to a rendition of its own.
-TooShort: the live line was to give up so much that a rendition would keep less than three targets. Nothing is to be done.
-TrimTooFar: units were to be given up that the live line still needs. Nothing is to be done.
-Truncated: the stream ends inside a box, or before the mdat of its last moof. What came before stays: send the rest, from the \
-beginning of its last unit.
-TwoTimingTrafs: a unit has two traf of the timing track. Let the encoder write one for each track.
-UnknownJob: no job has this id: it was removed, or never was. Ask for the recording anew.
-UnknownRendition: the channel has no rendition of this number. They count from 0, in the order of serve's words.
-UnknownTrack: a unit has a traf of a track that isn't in the init section. Send the init section that belongs to the stream.
-Utf8: a playlist isn't UTF-8, or begins with a byte order mark. Write it in UTF-8 without one.
-WriteFailed: standard output couldn't be written to its end; what is there is a beginning. Make room, and run it again.
+TooShort: a slide would leave a rendition less than three target durations. Nothing needs to be done.
+TrimTooFar: a trim would remove fragments that the live line still needs. Nothing needs to be done.
+Truncated: the stream ends inside a box, or before the mdat of its last moof. What came before is kept: continue from the \
+start of the last fragment.
+TwoTimingTrafs: a fragment has two traf boxes of the timing track. Configure the encoder to write one for each track.
+UnknownJob: no job has this id: it was deleted, or never existed. Request the recording again.
+UnknownRendition: the channel has no rendition with this number. Renditions are counted from 0, in the order of serve's \
+arguments.
+UnknownTrack: a fragment has a traf of a track that isn't in the init section. Send the init section that belongs to the \
+stream.
+Utf8: a playlist isn't UTF-8, or starts with a byte order mark. Write it in UTF-8 without one.
+WriteFailed: standard output couldn't be written to the end; what was written is incomplete. Make room, and run the command \
+again.
 ZeroScale: the timing track's timescale is 0. Change the encoder.";

@@ -16,18 +16,22 @@ use Rattle.hls_housekeeper.specs.Away.{begins_second, earlier, end_us_of, first_
 
 -- ---- renditions
 
+-- among no renditions none passes a test
 pub first_zero : (test : ℕ → Bool) → first_of test 0 ≡ None
 unfolding first_of
 first_zero test = refl
 
+-- the first of r + 1 renditions that passes is that of the first r, or else the last one if it passes
 pub first_next : (test : ℕ → Bool) (r : ℕ) → first_of test (r + 1) ≡ option_or (first_of test r) (if test r then Some r else None)
 unfolding first_of
 first_next test r = let a : r + 1 ≡ suc r = omega arith in rw a refl
 
+-- among no renditions there is no least end
 pub least_zero : (s : State) (silent : List Bool) → least_end s silent 0 ≡ None
 unfolding least_end
 least_zero s silent = refl
 
+-- the least end of r + 1 renditions is the earlier of that of the first r and the last one's, if it is present
 pub least_next : (s : State) (silent : List Bool) (r : ℕ) → least_end s silent (r + 1) ≡ earlier (least_end s silent r) (option_map end_us_of (present_at s silent r))
 unfolding least_end
 least_next s silent r = let a : r + 1 ≡ suc r = omega arith in rw a refl
@@ -40,7 +44,7 @@ end_missing rec none =
 
 -- ---- boundaries
 
--- what is found passes
+-- a unit that a search finds passes its test
 found_passes_at : (test : Facts → Bool) (y x : Facts) (b : Bool) (rest : Option Facts) → test y ≡ b → (rest ≡ Some x → test x ≡ true) → cond b (Some y) rest ≡ Some x → test x ≡ true
 found_passes_at test y x true rest at later is = let same : y ≡ x = cc in subst (λ (z : Facts). test z ≡ true) same at
 found_passes_at test y x false rest at later is = later is
@@ -53,6 +57,7 @@ and_second : (a b : Bool) → (a && b) ≡ true → b ≡ true
 and_second true b is = is
 and_second false b is = absurd (cc)
 
+-- a boundary begins at least the least span after the end
 boundary-after : (audio : Bool) (end_us least_us : ℕ) (f : Facts) → is_boundary audio end_us least_us f ≡ true → least_us ≤ f.start_us - end_us
 boundary-after audio end_us least_us f is =
     leb-true least_us (f.start_us - end_us) (and_second (f.sync && (not audio || begins_second f)) (nat_le least_us (f.start_us - end_us)) is)
@@ -67,6 +72,7 @@ over_late limit_us least_us f late =
     let above : f.start_us + least_us ≤ over_end_us least_us f = le-max_right f.end_us (f.start_us + least_us) in
     omega (arith, late, above)
 
+-- if the boundary is at least the least span after the end, and not all that are present have come that far, nothing is filled
 span_none : (fill_us limit_us : ℕ) (lead rec : RecordingData) (o : Option Facts)
     → ((f : Facts) → o ≡ Some f → least_span_us (is_audio rec.init) ≤ f.start_us - end_us_of rec) → limit_us - end_us_of rec < least_span_us (is_audio rec.init)
     → span_by fill_us limit_us lead rec o ≡ None

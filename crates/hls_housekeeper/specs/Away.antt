@@ -16,6 +16,7 @@ use Rattle.hls_housekeeper.specs.declared.fill.FillSpan.{FillSpan}
 
 -- ---- open, present and away
 
+-- a recording, unless its rendition is finished
 abbrev pub unfinished : Option Bool → Option RecordingData → Option RecordingData
 unfinished (Some true) rec = None
 unfinished finished rec = rec
@@ -42,6 +43,7 @@ away_at s silent r = if is_silent silent r then open_at s r else None
 abbrev pub end_us_of : RecordingData → ℕ
 end_us_of rec = (fact_at rec.facts (length rec.facts - 1)).end_us
 
+-- the earlier of two times; the only one, if there is one
 abbrev pub earlier : Option ℕ → Option ℕ → Option ℕ
 earlier None b = b
 earlier (Some a) None = Some a
@@ -59,13 +61,16 @@ unfoldable pub first_of : (ℕ → Bool) → ℕ → Option ℕ
 first_of test zero = None
 first_of test (suc r) = option_or (first_of test r) (if test r then Some r else None)
 
+-- whether there is a recording, and it is of video
 abbrev pub is_video_in : Option RecordingData → Bool
 is_video_in None = false
 is_video_in (Some rec) = not (is_audio rec.init)
 
+-- whether a rendition is present and has video
 abbrev pub is_present_video : State → List Bool → ℕ → Bool
 is_present_video s silent r = is_video_in (present_at s silent r)
 
+-- whether a rendition is present: open, and its encoder is heard of
 abbrev pub is_present : State → List Bool → ℕ → Bool
 is_present s silent r = is_some (present_at s silent r)
 
@@ -73,11 +78,12 @@ is_present s silent r = is_some (present_at s silent r)
 abbrev pub leader : State → List Bool → ℕ → Option ℕ
 leader s silent n = option_or (first_of (is_present_video s silent) n) (first_of (is_present s silent) n)
 
+-- the recording of a leader, if there is one
 abbrev pub leader_from : State → List Bool → Option ℕ → Option RecordingData
 leader_from s silent None = None
 leader_from s silent (Some r) = present_at s silent r
 
--- its recording
+-- the leader's recording, if there is a leader
 abbrev pub leader_at : State → List Bool → ℕ → Option RecordingData
 leader_at s silent n = leader_from s silent (leader s silent n)
 
@@ -87,7 +93,7 @@ leader_at s silent n = leader_from s silent (leader s silent n)
 abbrev pub begins_second : Facts → Bool
 begins_second f = nat_lt ((1000000 - f.start_us % 1000000) % 1000000) (f.end_us - f.start_us)
 
--- a unit that begins with a sync sample, at least so long after the end. Where audio leads, one for each second, the same for all
+-- a unit that begins with a sync sample, at least `least_us` after the end. Where audio leads, one for each second, the same for all
 -- renditions: every unit of audio begins with a sync sample
 abbrev pub is_boundary : Bool → ℕ → ℕ → Facts → Bool
 is_boundary leader_is_audio end_us least_us f = (f.sync && (not leader_is_audio || begins_second f)) && nat_le least_us (f.start_us - end_us)
@@ -107,7 +113,7 @@ least_span_us false = 1
 abbrev pub rescaled : ℕ → ℕ → ℕ → ℕ
 rescaled ticks from to = (ticks * to + (from - 1)) / from
 
--- a tick, or the last one that there is
+-- a tick, at most the last one of 64 bits
 abbrev pub bounded : ℕ → ℕ
 bounded tick = min tick (2 ^ 64 - 1)
 
@@ -124,6 +130,7 @@ span_to limit_us lead rec f =
 abbrev pub over_end_us : ℕ → Facts → ℕ
 over_end_us least_us f = max f.end_us (f.start_us + least_us)
 
+-- how long a filler after a hole is, in ticks of the rendition: as long as the leader's unit, or as the least span if that is longer
 abbrev pub over_ticks : ℕ → RecordingData → RecordingData → Facts → ℕ
 over_ticks least_us lead rec f =
     bounded (max (tick_at lead rec (bounded (f.start + f.duration)) - tick_at lead rec f.start) (rescaled least_us 1000000 (timing_track rec.init).scale))
@@ -147,10 +154,12 @@ fill_span fill_us limit_us lead rec =
 
 -- ---- fillers
 
+-- the filler of a recording for this span, if there is one
 abbrev pub filler_in : RecordingData → Option FillSpan → Option ReadUnit
 filler_in rec None = None
 filler_in rec (Some span) = span_filler rec span.start span.ticks
 
+-- the filler that a recording needs next, if it is away, others are present, and one of them leads
 abbrev pub next_filler : ℕ → Option ℕ → Option RecordingData → Option RecordingData → Option ReadUnit
 next_filler fill_us (Some limit_us) (Some lead) (Some rec) = filler_in rec (fill_span fill_us limit_us lead rec)
 next_filler fill_us limit_us lead rec = None
@@ -160,5 +169,6 @@ unfoldable pub filler_of : ℕ → State → List Bool → ℕ → Option ReadUn
 filler_of fill_us s silent r =
     next_filler fill_us (least_end s silent (length s.config.renditions)) (leader_at s silent (length s.config.renditions)) (away_at s silent r)
 
+-- the event of accepting a unit of a rendition
 abbrev pub accept_of : ℕ → ReadUnit → Event
 accept_of r u = Accept r u.facts u.bytes

@@ -2,33 +2,38 @@
 use Rattle.std.specs.Prelude.{◌≡◌, ℕ, ◌-◌, ◌*◌, ◌<◌, Bool, true, false, not, ◌&&◌, nat_lt, max, min, is_some, Option, Some, None, List, slice_get, fold}
 use Rattle.hls_housekeeper.specs.declared.lag.{RenditionProgress.RenditionProgress, MediaExtent.MediaExtent, LateRendition.LateRendition}
 
+-- the later of an end and that of a rendition's media, if it has any
 abbrev pub later_end : ℕ → Option MediaExtent → ℕ
 later_end end None = end
 later_end end (Some extent) = max extent.until end
 
+-- the earlier of a begin and that of a rendition's media, if it has any
 abbrev pub earlier_begin : ℕ → Option MediaExtent → ℕ
 earlier_begin begin None = begin
 earlier_begin begin (Some extent) = min extent.from begin
 
--- how far the renditions that have begun have come, and where the first of them began
+-- the latest end of all renditions that have begun, in microseconds; 0 if none has
 abbrev pub last_end : List RenditionProgress → ℕ
 last_end all_progress = fold (λ end progress. later_end end progress.extent) 0 all_progress
 
+-- the earliest begin of all renditions that have begun, in microseconds; `end` if it is earlier
 abbrev pub first_begin : ℕ → List RenditionProgress → ℕ
 first_begin end all_progress = fold (λ begin progress. earlier_begin begin progress.extent) end all_progress
 
--- for one that hasn't begun: everything that the others have
+-- how far a rendition's media end before the latest end; if it hasn't begun, everything that the others have
 abbrev pub lag_between : ℕ → ℕ → Option MediaExtent → ℕ
 lag_between begin end None = end - begin
 lag_between begin end (Some extent) = end - extent.until
 
+-- how far a rendition lags, in microseconds
 abbrev pub lag_us : List RenditionProgress → RenditionProgress → ℕ
 lag_us all_progress progress = lag_between (first_begin (last_end all_progress) all_progress) (last_end all_progress) progress.extent
 
--- more than three target durations, in microseconds
+-- a rendition that is not finished lags more than three target durations, given the earliest begin and the latest end
 abbrev pub is_late_between : ℕ → ℕ → ℕ → RenditionProgress → Bool
 is_late_between target begin end progress = not progress.finished && nat_lt (3000000 * target) (lag_between begin end progress.extent)
 
+-- a rendition that is not finished lags more than three target durations
 abbrev pub is_late : ℕ → List RenditionProgress → RenditionProgress → Bool
 is_late target all_progress progress = is_late_between target (first_begin (last_end all_progress) all_progress) (last_end all_progress) progress
 

@@ -26,7 +26,7 @@ abbrev pub log_entries : ℕ → WindowSettings → ℕ
 log_entries renditions t =
     min (renditions * 518400 + (renditions * (1036800000 / max 2000 (backoff_ms t.keep)) + 1036800000000 / max 1 t.preferred)) log_limit
 
--- the parts but for sockets, which aren't in the address space
+-- the parts in bytes, without the sockets, which aren't in the address space
 abbrev pub parts_of : ℕ → ℕ → WindowSettings → ThreadSettings → MemoryParts
 parts_of bits renditions t w = record {
   media = bytes_over bits (retained_us t);
@@ -37,6 +37,7 @@ parts_of bits renditions t w = record {
   connections = min (1024 * w.connections) most;
 }
 
+-- the sum of the parts, in bytes
 abbrev pub sum_of : MemoryParts → ℕ
 sum_of p = p.media + (p.jobs + (p.arriving + (p.log + (p.threads + p.connections))))
 
@@ -48,9 +49,11 @@ space_for sum = 33554432 + (sum + sum / 4)
 abbrev pub sockets_for : ThreadSettings → ℕ
 sockets_for w = min (327680 * w.connections) most
 
+-- what a server needs by these parts and its sockets: the address space, and the memory, which includes the sockets
 abbrev pub needs_with : MemoryParts → ℕ → MemoryNeeds
 needs_with p sockets = record { parts = p; sockets = sockets; address_space = space_for (sum_of p); memory = space_for (sum_of p) + sockets }
 
+-- what a server needs for the bits per second of all renditions, their number, and its settings
 abbrev pub needs_of : ℕ → ℕ → WindowSettings → ThreadSettings → MemoryNeeds
 needs_of bits renditions t w = needs_with (parts_of bits renditions t w) (sockets_for w)
 
@@ -60,22 +63,27 @@ mebibytes bytes = bytes / 1048576 + 1
 
 -- ---- the text
 
+-- the line of a part: its name, and whole mebibytes
 unfoldable pub part_line : List ℕ → ℕ → List ℕ
 part_line name bytes = name ++ (32 ∷ (decimal (mebibytes bytes) ++ 10 ∷ []))
 
--- as systemd.exec(5) and systemd.resource-control(5) read them
+-- the line of a limit, as systemd.exec(5) and systemd.resource-control(5) read it
 unfoldable pub limit_line : List ℕ → ℕ → List ℕ
 limit_line name bytes = name ++ (61 ∷ (decimal (mebibytes bytes) ++ codes "M\n"))
 
+-- the lines of the media that are kept, that jobs hold, and that arrive
 unfoldable pub media_lines : MemoryParts → List ℕ
 media_lines p = part_line (codes "media") p.media ++ (part_line (codes "jobs") p.jobs ++ part_line (codes "arriving") p.arriving)
 
+-- the lines of the log, the threads and the connections
 unfoldable pub process_lines : MemoryParts → List ℕ
 process_lines p = part_line (codes "log") p.log ++ (part_line (codes "threads") p.threads ++ part_line (codes "connections") p.connections)
 
+-- the lines of the sockets and of both limits
 unfoldable pub limit_lines : MemoryNeeds → List ℕ
 limit_lines n =
     part_line (codes "sockets") n.sockets ++ (limit_line (codes "LimitAS") n.address_space ++ limit_line (codes "MemoryMax") n.memory)
 
+-- the text of what a server needs, line by line
 unfoldable pub needs_text : MemoryNeeds → List ℕ
 needs_text n = media_lines n.parts ++ (process_lines n.parts ++ limit_lines n)

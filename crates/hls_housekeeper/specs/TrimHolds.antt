@@ -2,7 +2,7 @@
 use Rattle.std.specs.Prelude.{ℕ, Bool, ◌||◌, List, get_or, nat_lt, replicate}
 use Rattle.hls_housekeeper.specs.declared.trim_hold.TrimHold.{TrimHold}
 
--- during a backoff each trim waits; and each of a unit that isn't written
+-- during a backoff each trim waits, and otherwise each trim of units that are not all written
 abbrev pub holds_back : TrimHold → ℕ → ℕ → Bool
 holds_back hold rendition floor = hold.resting || nat_lt (get_or hold.written rendition 0) floor
 

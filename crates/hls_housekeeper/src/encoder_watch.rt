@@ -11,26 +11,29 @@ use hls_core_laws::rendition::Rendition;
 use hls_metrics::measurements::add;
 use std::io::Eprint;
 
-/// What is known of the encoders.
+/// What is known of the encoders: since when each is unheard, which are away, and the alerts about them. An encoder is away if it wasn't
+/// heard for longer than the wait while another one was present.
 #[derive(Clone, Copy)]
 pub struct EncoderWatch {
     /// Since when each rendition is open and watched, in milliseconds of the clock; 0 if it isn't.
     since: [u64; MOST_RENDITIONS],
-    /// For each rendition, whether its encoder is away, or nothing is heard of any.
+    /// For each rendition, whether mending takes it as silent: its encoder is away, or no encoder was heard for longer than the wait.
     pub silent: [bool; MOST_RENDITIONS],
-    /// For each rendition, whether nothing was heard of its encoder for too long while another one was there.
+    /// For each rendition, whether its encoder is away.
     is_away: [bool; MOST_RENDITIONS],
-    /// For each rendition, whether it is silent since before another encoder came back.
+    /// For each rendition, whether its encoder was unheard when another one came back; at the next return of one it is away.
     is_missed: [bool; MOST_RENDITIONS],
-    /// Since when an encoder is there, in milliseconds of the clock; 0 if none is.
+    /// Since when an encoder is present, in milliseconds of the clock; 0 if none is.
     present_since: u64,
     /// When an encoder was last heard, in milliseconds of the clock; 0 if never.
     newest: u64,
-    /// The number of fillers of each rendition since its encoder is away.
+    /// The number of fillers of each rendition since its encoder went away.
     pub fillers: [u64; MOST_RENDITIONS],
-    /// How many of these fillers were counted.
+    /// How many of these fillers are in the metric already.
     counted_fillers: u64,
+    /// For each rendition, the alert that its encoder is away.
     away: [Alert; MOST_RENDITIONS],
+    /// For each rendition, the alert that its units are refused as ahead of the channel.
     ahead: [Alert; MOST_RENDITIONS],
 }
 

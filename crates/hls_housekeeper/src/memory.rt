@@ -107,7 +107,7 @@ fn log_memory_needed<E: Eprint>(
     }
     let (level, needed, given) = (log.warning_prefix(), needed / MEGABYTE, given / MEGABYTE);
     let _ = eprintln!(log.rt;
-        "{level}serve: these renditions want {needed} MB for what --keep and --window say, and {what} {given} MB"
+        "{level}serve: these renditions need {needed} MB for --keep and --window, and {what} {given} MB"
     );
 }
 

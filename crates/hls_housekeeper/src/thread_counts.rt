@@ -41,7 +41,7 @@ pub fn log_fewer_threads<E: Eprint>(
     }
     let (planners, all) = (started.planners, wanted.planners);
     if planners == 0 {
-        let _ = eprintln!(rt; "{error}serve: no thread for planning: catch-up jobs wait for ever");
+        let _ = eprintln!(rt; "{error}serve: no thread for planning: catch-up jobs wait forever");
     } else if planners < all {
         let _ = eprintln!(rt; "{warning}serve: {planners} of {all} planners could be started");
     }

@@ -29,7 +29,7 @@ pub fn log_late<E: Eprint>(log: &OperatorLog<'_, E>, name: DisplayName<'_>, late
 
 /// Logs that the live playlists no longer wait for a rendition.
 pub fn log_recovered<E: Eprint>(log: &OperatorLog<'_, E>) {
-    let _ = eprintln!(log.rt; "serve: live lists go on");
+    let _ = eprintln!(log.rt; "serve: live lists continue");
 }
 
 /// Logs that a write to the journal, or a sync, takes long.

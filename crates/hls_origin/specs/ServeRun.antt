@@ -14,19 +14,19 @@ use Rattle.hls_origin.specs.declared.serve.run.ServeEnd.TheVariants.{Done, Usage
 abbrev pub AreSettings : List Text → Type 0
 AreSettings arguments = (settings : Settings) × ReadsSettings arguments (Ok settings)
 
--- .. and valid options of a journal
+-- arguments that specify settings and valid options of a journal
 abbrev pub HasJournal : List Text → Type 0
 HasJournal arguments = AreSettings arguments × (journal : JournalSettings) × (journal_settings_of arguments ≡ Ok journal)
 
--- how it ends once the channel has a state
+-- `serve` may end like this once the channel has a state
 abbrev pub IsServed : ServeEnd → Type 0
 IsServed Done = Unit {0}
 IsServed BindFailed = Unit {0}
 IsServed Memory = Unit {0}
 IsServed end = ⊥
 
--- a usage fault reports the first invalid argument, and nothing was started; else the arguments were valid, or memory ran out. If the base
--- can't be taken, nothing was started either
+-- how `serve` may end: a usage fault reports the first invalid argument; any other end but `Memory` comes only if the arguments are valid, and
+-- the three that concern a journal's folder only if its options are valid too
 abbrev pub EndsServe : List Text → ServeEnd → Type 0
 EndsServe arguments Done = AreSettings arguments
 EndsServe arguments BindFailed = AreSettings arguments

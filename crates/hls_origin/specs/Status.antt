@@ -15,30 +15,35 @@ use Rattle.hls_origin.specs.declared.serve.run.ServeEnd.TheVariants as serve
 abbrev pub usage_status : ℕ
 usage_status = 2
 
+-- the exit status of `cut`
 abbrev pub cut_status : CutEnd → ℕ
 cut_status cut.Done = 0
 cut_status (cut.Refused f) = 1
 cut_status (cut.Usage fault) = usage_status
 cut_status cut.NoCut = 3
 
+-- the exit status of `check`
 abbrev pub check_status : CheckEnd → ℕ
 check_status check.Yes = 0
 check_status check.Refused = 1
 check_status check.ReadFailed = 1
 check_status (check.WriteFailed answer) = 1
 
+-- the exit status of `lint`
 abbrev pub lint_status : LintEnd → ℕ
 lint_status lint.Readable = 0
 lint_status lint.Refused = 1
 lint_status lint.ReadFailed = 1
 lint_status lint.WriteFailed = 1
 
+-- the exit status of `explain`
 abbrev pub explain_status : ExplainEnd → ℕ
 explain_status explain.Explained = 0
 explain_status explain.Unknown = 1
 explain_status explain.WriteFailed = 1
 explain_status explain.Memory = 1
 
+-- the exit status of `serve`
 abbrev pub serve_status : ServeEnd → ℕ
 serve_status serve.Done = 0
 serve_status (serve.Usage fault) = usage_status

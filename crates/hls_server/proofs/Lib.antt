@@ -1,1 +1,2 @@
+-- What the server's threads share is Send and Sync.
 mod Sending

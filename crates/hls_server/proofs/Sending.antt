@@ -35,26 +35,31 @@ use Rattle.hls_server.specs.contracts.server.WakingGate as gate
 use Rattle.hls_server.specs.contracts.server.ServerJournal as journal
 use Rattle.hls_server.proofs.durability.Durability.TheSendSync as durability
 
+-- a struct may be sent to another thread if each of its fields may
 declared_send : (T : Declared) → AllSend (declared.fields T) → IsSend (declared.row T)
 declared_send T s = recorded_send (Struct (declared.shape T)) T.D T.to T.to_one (struct_send (declared.shape T) s)
 
+-- a struct may be shared by threads if each of its fields may
 declared_sync : (T : Declared) → AllSync (declared.fields T) → IsSync (declared.row T)
 declared_sync T s = recorded_sync (Struct (declared.shape T)) T.D T.to T.to_one (struct_sync (declared.shape T) s)
 
--- a closure, by what it captures
+-- a closure may be sent to another thread if the three values that it captures may
 pub closure_of_three : (n : Sym) (A B C : RattleType) → IsSend A → IsSend B → IsSend C → IsSend (TupleAt n (A ∷ B ∷ C ∷ []))
 closure_of_three n A B C a b c = declared_send (type_at n (A ∷ B ∷ C ∷ [])) (a, (b, (c, tt)))
 
+-- a closure may be sent to another thread if the four values that it captures may
 pub closure_of_four : (n : Sym) (A B C D : RattleType) → IsSend A → IsSend B → IsSend C → IsSend D → IsSend (TupleAt n (A ∷ B ∷ C ∷ D ∷ []))
 closure_of_four n A B C D a b c d = declared_send (type_at n (A ∷ B ∷ C ∷ D ∷ [])) (a, (b, (c, (d, tt))))
 
+-- the allocator may be sent to another thread
 pub alloc_send : IsSend alloc.the_row
 alloc_send = search (sendable, crosses) depth 30
 
--- a log owns nothing
+-- a log may be shared by threads if it may be sent, since it owns nothing
 log_sync : (A B : RattleType) → IsSend (log.the_row A B) → IsSync (log.the_row A B)
 log_sync A B s = record { shared = λ d b o κ q. whole-keyless _ _ s.owned q d b o }
 
+-- the texts of programmes may be shared by threads
 texts_sync : IsSync texts.the_row
 texts_sync =
     view_sync _ _ _ _ _
@@ -69,19 +74,24 @@ texts_sync =
       ),
     ))
 
+-- the table of plans may be sent to another thread
 plans_send : IsSend (plans.the_field).row
 plans_send = search (sendable, crosses, plan_row.the_send, texts_sends.the_send, texts_sync) depth 30
 
+-- the table of jobs may be sent to another thread
 inner_send : IsSend inner.the_row
 inner_send = declared_send inner.the_type (table.the_send, (search (sendable, crosses, last_use.the_send) depth 30, (plans_send, (search sendable, tt))))
 
+-- the shared jobs may be shared by threads
 pub jobs_sync : IsSync jobs.the_row
 jobs_sync = search (sendable, crosses, inner_send) depth 30
 
+-- what threads share of a channel may be shared: its turn, its jobs, its measurements and its encoders' signs
 channel_sync : (a : NamedLft) → IsSync (channel.the_row a)
 channel_sync a = declared_sync (channel.the_type a)
     (shr_sync _ _ _ turn.the_sync, (shr_sync _ _ _ jobs_sync, (shr_sync _ _ _ measurements.the_sync, (shr_sync _ _ _ signs.the_sync, (search (sendable, crosses) depth 30, (search (sendable, crosses) depth 30, tt))))))
 
+-- the context of a server may be shared by threads
 pub context_sync : (a : NamedLft) → IsSync (context.the_row a)
 context_sync a = declared_sync (context.the_type a) (
   search (sendable, crosses) depth 30,
@@ -100,8 +110,10 @@ context_sync a = declared_sync (context.the_type a) (
   ),
 )
 
+-- the gate of a planner may be sent to another thread, if the runtime that it borrows may be shared
 pub gate_send : (a : NamedLft) (R : RattleType) → IsSync R → IsSend (gate.the_row a R)
 gate_send a R s = declared_send (gate.the_type a R) (shr_send _ _ _ s, (shr_send _ _ _ worker_loads.the_sync, (shr_send _ _ _ measurements.the_sync, tt)))
 
+-- a server's journal may be sent to another thread if its follower may
 pub journal_send : (F : RattleType) → IsSend F → IsSend (journal.the_row F)
 journal_send F f = declared_send (journal.the_type F) (f, (search (sendable, crosses) depth 30, (search (sendable, crosses) depth 30, tt)))

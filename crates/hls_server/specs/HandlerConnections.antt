@@ -17,7 +17,7 @@ pub record HistoryGrows (a : Knowledge) (old : Connection) (t : Traffic) (b : Kn
   pub acts : ActsExtend Others a (history old).acts b (history new).acts
   pub channel : channel_of new ≡ channel_of old
 
--- .. and what must be durable before its bytes are sent covers what the handle saw
+-- the connection's history grew by this traffic, and what must be durable before its bytes are sent covers what the handle saw
 pub record ServesHeld (a : Knowledge) (old : LoggedConnection) (t : Traffic) (b : Knowledge) (new : LoggedConnection) : Type 0 where
   pub grows : HistoryGrows a old.connection t b new.connection
   pub covered : KeepsCovered a.seen old.gate.needed b.seen new.gate.needed
@@ -26,11 +26,11 @@ pub record ServesHeld (a : Knowledge) (old : LoggedConnection) (t : Traffic) (b 
 abbrev pub unsent : LoggedConnection → List ℕ
 unsent logged = released logged.gate (history logged.connection).pending
 
--- its bytes are held back
+-- a connection's bytes are held back, or its body isn't read
 abbrev pub IsHeld : LoggedConnection → Type 0
 IsHeld logged = IsTrue (holds_back logged.gate (history logged.connection).pending)
 
--- one that is held back waits
+-- a connection whose bytes are held back waits; otherwise its stage is that of its session
 abbrev pub HasStage : LoggedConnection → ConnectionStage → Type 0
 HasStage logged stage = (IsHeld logged → stage ≡ stages.Waiting) × ((IsHeld logged → ⊥) → IsStatus stage logged.connection)
 

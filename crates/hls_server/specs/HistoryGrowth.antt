@@ -8,7 +8,7 @@ use Rattle.hls_api.specs.Types.{State}
 use Rattle.hls_server.specs.{HandlerConnections.{HistoryGrows, ServesHeld}, SendGates.{Covers, KeepsCovered}}
 use Rattle.hls_server.specs.{declared.logged_connection.LoggedConnection.LoggedConnection, declared.send_gate.NeededPoint.NeededPoint}
 
--- it may stay as it is
+-- without traffic a connection's history grows by nothing
 pub grows_by_nothing : (a : Knowledge) (v : Connection) → HistoryGrows a v no_traffic a v
 grows_by_nothing a v =
     let h = history v in
@@ -20,6 +20,7 @@ grows_by_nothing a v =
       channel = refl;
     }
 
+-- bytes that are appended in two turns are appended in sequence
 grown : (before s t middle after : List ℕ) → middle ≡ before ++ s → after ≡ middle ++ t → after ≡ before ++ (s ++ t)
 grown before s t middle after first second = second ∙ ap (λ (l : List ℕ). l ++ t) first ∙ append_assoc before s t
 
@@ -33,19 +34,22 @@ growth_composes {a} {b} {c} {u} {v} {w} s t first second = record {
   channel = second.channel ∙ first.channel;
 }
 
--- what covered a state covers the same one, where the same is needed
+-- what must be durable still covers a state if neither it nor the state changed
 still_covers : (before seen : State) (was needed : NeededPoint) → seen ≡ before → needed ≡ was → Covers before was → Covers seen needed
 still_covers before seen was needed same need covers =
     subst (λ (s : State). Covers s needed) (sym same) (subst (λ (n : NeededPoint). Covers before n) (sym need) covers)
 
+-- if each of two turns in a row keeps covered what was seen, both together do
 pub covered_on : (s t u : State) (l m n : NeededPoint) → KeepsCovered s l t m → KeepsCovered t m u n → KeepsCovered s l u n
 covered_on s t u l m n first (inr covers) = inr covers
 covered_on s t u l m n (inr covers) (inl same) = inr (still_covers t u m n same.0 same.1 covers)
 covered_on s t u l m n (inl first) (inl second) = inl (second.0 ∙ first.0, second.1 ∙ first.1)
 
+-- a turn without traffic leaves the history and what must be durable
 pub serves_nothing : (a : Knowledge) (v : LoggedConnection) → ServesHeld a v no_traffic a v
 serves_nothing a v = record { grows = grows_by_nothing a v.connection; covered = inl (refl, refl) }
 
+-- two turns in a row are one, in the history and in what must be durable
 pub serves_on : {a b c : Knowledge} {u v w : LoggedConnection} (s t : Traffic) → ServesHeld a u s b v → ServesHeld b v t c w → ServesHeld a u (followed_by s t) c w
 serves_on {a} {b} {c} {u} {v} {w} s t first second = record {
   grows = growth_composes s t first.grows second.grows;

@@ -21,7 +21,7 @@ holds_back gate (byte ∷ bytes) = is_closed gate
 abbrev pub released : SendGate → List ℕ → List ℕ
 released gate bytes = cond (holds_back gate bytes) [] bytes
 
--- .. and what is said of the connection once they are sent
+-- how a connection ends once its bytes are sent; it doesn't while they are held back
 abbrev pub unless_held : {A : Type 0} → SendGate → List ℕ → Option A → Option A
 unless_held gate bytes end = cond (holds_back gate bytes) None end
 

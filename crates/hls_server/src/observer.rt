@@ -15,7 +15,7 @@ pub fn log_slow_response<E: Eprint>(rt: &E, milliseconds: u64, access_line: Acce
         method_name(access_line.method),
         RoutePath(access_line.route),
     );
-    let _ = eprintln!(rt; "serve: a reply took {milliseconds} ms to make: {method} {path}");
+    let _ = eprintln!(rt; "serve: a response took {milliseconds} ms to make: {method} {path}");
 }
 
 /// The observer of a connection for one turn: it logs an encoder's body that ended, and notes what became of a request.

@@ -17,7 +17,7 @@ pub fn log_start<R: Eprint + Files>(log: &OperatorLog<'_, R>, alloc: Global, set
     if held < wanted {
         let level = log.warning_prefix();
         let _ = eprintln!(log.rt;
-            "{level}serve: --connections {wanted} wants more than the {files} files that this process may have open: {held} are held"
+            "{level}serve: --connections {wanted} needs more than the {files} files that this process may have open: at most {held} are accepted"
         );
     }
     log_memory(log, alloc, settings);

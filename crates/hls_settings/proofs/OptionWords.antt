@@ -13,21 +13,24 @@ use Rattle.hls_settings.specs.WrongArguments.{cut_options, wrong_argument}
 use Rattle.hls_settings.specs.declared.wrong_argument.WrongArgument.{WrongArgument}
 use Rattle.hls_settings.specs.Options.{CutOptionsData, ReadsOptions, choice_in, choice_of, cut_app, options_of, refused_option, unless_refused}
 
+-- `cut` is a simple command for `clap`: the arguments determine the matches
 pub cut_is_simple : is_simple cut_app ≡ true
 unfolding cut_app
 cut_is_simple = refl
 
+-- `cut` is a simple command for `clap`, and none of its options has a rule on another
 pub cut_is_simple_and_free : is_simple_and_free cut_app ≡ true
 unfolding cut_app
 cut_is_simple_and_free = refl
 
+-- the first value of an option among the matches is the first one of it in the arguments
 first_in_rows : (app : App) (arguments : List Text) (m : ArgMatches) (name : Text) → app ≡ cut_app → HasMatchesOf app arguments m
     → first_value (found_of m) name ≡ first_of name (matches_of cut_app arguments)
 first_in_rows app arguments m name is has =
     let rows : rows_of (found_of m) ≡ matches_of cut_app arguments = (has (ap is_simple is ∙ cut_is_simple)).0 ∙ ap (λ (a : App). matches_of a arguments) is in
     first_value-rows (found_of m) name ∙ ap (first_of name) rows
 
--- accepted arguments
+-- if `clap` accepts the arguments, the options by its matches are those that the arguments specify
 pub taken_words : (app : App) (arguments : List Text) (m : ArgMatches) → app ≡ cut_app → HasMatchesOf app arguments m → fault_of app arguments ≡ []
     → choice_in (first_value (found_of m) (codes "each")) (first_value (found_of m) (codes "preferred")) (first_value (found_of m) (codes "certificate"))
     (first_value (found_of m) (codes "target")) (first_value (found_of m) (codes "uri")) (first_value (found_of m) (codes "charge"))
@@ -51,14 +54,16 @@ memory_or_words : (k : ErrorKind) (wrong : Option WrongArgument) → (refused_op
 memory_or_words kind.OutOfMemory wrong = inl refl
 memory_or_words _ wrong = inr refl
 
+-- if `clap` has a fault, the arguments are refused for the first invalid one
 some_fault : (ks : Kinds) (k : ErrorKind) (wrong : Option WrongArgument) (choice : Result CutOptionsData CutOptionsFault) → IsAmong k ks → unless_refused ks wrong choice ≡ Err (faults.Arguments wrong)
 some_fault [] k wrong choice among = absurd among
 some_fault (j ∷ ks) k wrong choice among = refl
 
+-- an allocation failure is a valid result of any arguments
 without_memory : (arguments : List Text) (fault : CutOptionsFault) → fault ≡ faults.Memory → ReadsOptions arguments (Err fault)
 without_memory arguments fault is = subst (λ (f : CutOptionsFault). ReadsOptions arguments (Err f)) (sym is) tt
 
--- refused arguments
+-- if `clap` refuses the arguments, the result is their refusal, or an allocation failure
 pub refused_words : (app : App) (arguments : List Text) (e : Error) (fault : CutOptionsFault) → app ≡ cut_app → fault ≡ refused_option (kind_of e) (wrong_argument cut_options false arguments)
     → HasKind (fault_of app arguments) e → ReadsOptions arguments (Err fault)
 unfolding options_of
@@ -75,7 +80,7 @@ refused_words app arguments e fault is by (inr among) = go (memory_or_words (kin
         subst (λ (a : App). unless_refused (fault_of a arguments) (wrong_argument cut_options false arguments) (choice_of (matches_of cut_app arguments)) ≡ Err (faults.Arguments (wrong_argument cut_options false arguments))) is some in
         subst (λ (f : CutOptionsFault). ReadsOptions arguments (Err f)) (sym (by ∙ wrong)) of_cut
 
--- the result is that of the arguments, unless memory runs out
+-- what the arguments specify is a valid result of reading them
 pub reads_options : (arguments : List Text) (result : Result CutOptionsData CutOptionsFault) → options_of arguments ≡ result → ReadsOptions arguments result
 reads_options arguments (Err faults.Memory) is = tt
 reads_options arguments (Err f) is = is

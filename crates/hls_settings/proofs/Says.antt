@@ -8,7 +8,7 @@ use Rattle.hls_settings.specs.declared.fault.SettingsFault.TheVariants as faults
 use Rattle.hls_settings.specs.Renditions.{rendition_of}
 use Rattle.hls_settings.specs.ReadSettings.{ReadsRendition, ReadsRenditions, ParsesTo}
 
--- one more argument
+-- if the first n arguments specify some renditions and argument n one more, the first n + 1 specify them all
 more : (arguments : List (Bor Text)) (renditions : List Rendition) (n : ℕ) (d : Bor Text) (r : Rendition) → n < length arguments → rendition_of (get_or arguments n d).now ≡ Some r
     → ParsesTo (take n (map (λ w. w.now) arguments)) renditions → ParsesTo (take (suc n) (map (λ w. w.now) arguments)) (renditions ++ r ∷ [])
 more [] renditions n d r below is said = absurd (omega arith)
@@ -19,11 +19,12 @@ more (w ∷ ws) (x ∷ xs) (suc n) d r below is said =
     ap₂ (λ (o : Option Rendition) (os : List (Option Rendition)). o ∷ os) (ap (λ (os : List (Option Rendition)). get_or os 0 None) said)
     (more ws xs n d r (omega arith) is (ap (drop 1) said))
 
+-- if the first n arguments specify some renditions and argument n one more, the first n + 1 specify them all
 pub say_more : (arguments : List (Bor Text)) (renditions : List Rendition) (n : ℕ) (d : Bor Text) (r : Rendition) → n < length arguments → rendition_of (get_or arguments n d).now ≡ Some r
     → ParsesTo (take n (map (λ w. w.now) arguments)) renditions → ParsesTo (take (n + 1) (map (λ w. w.now) arguments)) (renditions ++ r ∷ [])
 say_more arguments renditions n d r below is said = rw add-one (more arguments renditions n d r below is said)
 
--- an argument that specifies no rendition, or an allocation failure, after arguments that specify these
+-- after arguments that specify renditions, one that specifies none, or an allocation failure, gives the result of all
 pub unread_at : (arguments : List (Bor Text)) (renditions : List Rendition) (n m : ℕ) (d : Bor Text) (fault : SettingsFault) → n < length arguments → m ≡ n → ParsesTo (take n (map (λ w. w.now) arguments)) renditions
     → ReadsRendition m (get_or arguments n d).now (Err fault) → ReadsRenditions (map (λ w. w.now) arguments) (Err fault)
 unread_at arguments renditions n m d (faults.Rendition k) below same said unread =

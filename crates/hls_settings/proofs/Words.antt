@@ -17,18 +17,21 @@ use Rattle.hls_settings.specs.Settings.{Texts, server_settings_of}
 use Rattle.hls_settings.specs.WrongArguments.{serve_options, wrong_argument}
 use Rattle.hls_settings.specs.declared.wrong_argument.WrongArgument.{WrongArgument}
 
+-- `serve` is a simple command for `clap`: the arguments determine the matches
 pub serve_is_simple : is_simple serve_app ≡ true
 unfolding serve_app journal_app options_app server_app channel_app timing_app
 serve_is_simple = refl
 
+-- `serve` is a simple command for `clap`, and none of its options has a rule on another
 pub serve_is_simple_and_free : is_simple_and_free serve_app ≡ true
 unfolding serve_app journal_app options_app server_app channel_app timing_app
 serve_is_simple_and_free = refl
 
--- what the getters return, by the rows
+-- the texts of these arguments, in the order of the fields
 abbrev texts_from : Option Text → Option Text → Option Text → Option Text → Option Text → Option Text → Option Text → Option Text → Option Text → Option Text → Option Text → Option Text → Option Text → Option Text → Option Text → Option Text → Option Text → Option Text → Option (List Text) → Texts
 texts_from a b c d u e f g h i j m q r s w v k l = record { target = a; preferred = b; window = c; keep = d; live = u; epoch = e; workers = f; connections = g; planners = h; idle_timeout_s = i; log = j; run = m; mend = q; snap = r; fill = s; wait = w; job_life = v; address = k; renditions = l }
 
+-- equal arguments make equal texts
 same_texts : (a a' b b' c c' d d' u u' e e' f f' g g' h h' i i' j j' m m' q q' r r' s s' w w' v v' k k' : Option Text) (l l' : Option (List Text)) → a ≡ a' → b ≡ b' → c ≡ c' → d ≡ d' → u ≡ u' → e ≡ e' → f ≡ f' → g ≡ g' → h ≡ h' → i ≡ i' → j ≡ j' → m ≡ m' → q ≡ q' → r ≡ r' → s ≡ s' → w ≡ w' → v ≡ v' → k ≡ k' → l ≡ l'
     → texts_from a b c d u e f g h i j m q r s w v k l ≡ texts_from a' b' c' d' u' e' f' g' h' i' j' m' q' r' s' w' v' k' l'
 same_texts a a' b b' c c' d d' u u' e e' f f' g g' h h' i i' j j' m m' q q' r r' s s' w w' v v' k k' l l' pa pb pc pd pu pe pf pg ph pi pj pm pq pr ps pw pv pk pl =
@@ -52,6 +55,7 @@ same_texts a a' b b' c c' d d' u u' e e' f f' g g' h h' i i' j j' m m' q q' r r'
     ap (λ (x : Option Text). texts_from a' b' c' d' u' e' f' g' h' i' j' m' q' r' s' w' v' x l) pk ∙
     ap (λ (x : Option (List Text)). texts_from a' b' c' d' u' e' f' g' h' i' j' m' q' r' s' w' v' k' x) pl
 
+-- the texts among the matches are those of their rows
 texts-rows : (found : Found) → texts_in found ≡ texts_of (rows_of found)
 texts-rows found = same_texts _ _ _ _ _ _ _ _ _ _ _ _ _ _ _ _ _ _ _ _ _ _ _ _ _ _ _ _ _ _ _ _ _ _ _ _ _ _
     (first_value-rows found (codes "target"))
@@ -74,7 +78,7 @@ texts-rows found = same_texts _ _ _ _ _ _ _ _ _ _ _ _ _ _ _ _ _ _ _ _ _ _ _ _ _ 
     (first_value-rows found (codes "address"))
     (raw_values-rows found (codes "renditions"))
 
--- accepted arguments
+-- if `clap` accepts the arguments, the settings by its matches are those that the arguments specify
 pub taken_words : (app : App) (arguments : List Text) (m : ArgMatches) (result : Result Settings SettingsFault) → app ≡ serve_app → HasMatchesOf app arguments m → fault_of app arguments ≡ []
     → SetsBy (server_settings_of (texts_in (found_of m))) (rendition_arguments (texts_in (found_of m)).renditions) result → ReadsSettings arguments result
 taken_words app arguments m result is has none given =
@@ -90,11 +94,12 @@ memory_or_words : (k : ErrorKind) (wrong : Option WrongArgument) → (refused_by
 memory_or_words kind.OutOfMemory wrong = inl refl
 memory_or_words _ wrong = inr refl
 
+-- if `clap` has a fault, the arguments are refused for the first invalid one
 some_fault : (arguments : List Text) (ks : Kinds) (k : ErrorKind) (texts : Texts) → IsAmong k ks → SetsIn arguments ks texts (Err (faults.Arguments (wrong_argument serve_options true arguments)))
 some_fault arguments [] k texts among = absurd among
 some_fault arguments (j ∷ ks) k texts among = refl
 
--- refused arguments
+-- if `clap` refuses the arguments, the result is their refusal, or an allocation failure
 pub refused_words : (app : App) (arguments : List Text) (e : Error) (fault : SettingsFault) → app ≡ serve_app → fault ≡ refused_by (kind_of e) (wrong_argument serve_options true arguments)
     → HasKind (fault_of app arguments) e → ReadsSettings arguments (Err fault)
 refused_words app arguments e fault is by (inl memory) = inl (ap Err (by ∙ ap (λ (k : ErrorKind). refused_by k (wrong_argument serve_options true arguments)) memory))

@@ -14,6 +14,6 @@ abbrev pub with_options : App → List (Text × Bool) → App
 with_options app [] = app
 with_options app (o ∷ os) = with_options (with_rule app (option_rule o.0 o.1)) os
 
--- a command with this name, whose arguments don't begin with its name
+-- a command with this name and these options; its arguments don't begin with its name
 abbrev pub command_with : Text → List (Text × Bool) → App
 command_with name os = with_options (without_name (new_app name)) os

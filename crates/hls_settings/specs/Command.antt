@@ -18,32 +18,39 @@ value_rule name = record (new_rule name) { long = Some name }
 abbrev pub words_rule : Text → Rule
 words_rule name = record (new_rule name) { action = Some Append }
 
--- arguments that don't begin with the program's own name
+-- a command whose arguments don't begin with the program's own name
 abbrev pub without_name : App → App
 without_name app = record app { top = record app.top { no_binary_name = true } }
 
+-- the command `serve` without options
 abbrev pub named_app : App
 named_app = without_name (new_app (codes "serve"))
 
+-- the command with the options of the durations
 unfoldable pub timing_app : App
 timing_app = with_rule (with_rule (with_rule (with_rule (with_rule named_app (value_rule (codes "target"))) (value_rule (codes "preferred"))) (value_rule (codes "window"))) (value_rule (codes "keep"))) (value_rule (codes "live"))
 
+-- the command with the options of the durations and the epoch
 unfoldable pub channel_app : App
 channel_app = with_rule timing_app (value_rule (codes "epoch"))
 
+-- the command with those of the threads, the log, the run and the base as well
 unfoldable pub server_app : App
 server_app = with_rule (with_rule (with_rule (with_rule (with_rule (with_rule (with_rule channel_app (value_rule (codes "workers"))) (value_rule (codes "connections"))) (value_rule (codes "planners"))) (value_rule (codes "patience"))) (value_rule (codes "log"))) (value_rule (codes "run"))) (value_rule (codes "base"))
 
+-- the command with those of mending and of the life of jobs as well
 unfoldable pub options_app : App
 options_app = with_rule (with_rule (with_rule (with_rule (with_rule server_app (flag_rule (codes "mend"))) (value_rule (codes "snap"))) (value_rule (codes "fill"))) (value_rule (codes "wait"))) (value_rule (codes "job-life"))
 
+-- the command with those of the journal as well
 unfoldable pub journal_app : App
 journal_app = with_rule (with_rule (with_rule (with_rule options_app (value_rule (codes "journal"))) (value_rule (codes "sync"))) (value_rule (codes "journal-lost"))) (flag_rule (codes "anew"))
 
+-- the whole command `serve`: the options, then the address, then the renditions
 unfoldable pub serve_app : App
 serve_app = with_rule (with_rule journal_app (new_rule (codes "address"))) (words_rule (codes "renditions"))
 
--- the texts among the matches
+-- the texts of the arguments among the matches of `clap`
 abbrev pub texts_in : Found → Texts
 texts_in found = record {
   target = first_value found (codes "target");
@@ -67,20 +74,22 @@ texts_in found = record {
   renditions = option_map raw_values (matched_of found (codes "renditions"));
 }
 
--- the durations and the threads among the matches. For the code alone
+-- the durations among the matches, or their first fault. For the code alone
 abbrev pub timing_found : Found → Result WindowSettings SettingsFault
 timing_found found =
     timing_of (first_value found (codes "target")) (first_value found (codes "preferred")) (first_value found (codes "window")) (first_value found (codes "keep"))
     (first_value found (codes "live"))
 
+-- the threads among the matches, or their first fault. For the code alone
 abbrev pub workers_found : Found → Result ThreadSettings SettingsFault
 workers_found found =
     workers_of (first_value found (codes "workers")) (first_value found (codes "connections")) (first_value found (codes "planners")) (first_value found (codes "patience"))
 
+-- how far units are mended, by the matches, or the first fault. For the code alone
 abbrev pub mending_found : Found → Result (Option MendSettings) SettingsFault
 mending_found found = mending_of (first_value found (codes "mend")) (first_value found (codes "snap")) (first_value found (codes "fill")) (first_value found (codes "wait"))
 
--- the texts of the arguments
+-- the texts of the arguments, by the rows that `clap` makes of them
 abbrev pub texts_of : List Row → Texts
 texts_of rows = record {
   target = first_of (codes "target") rows;

@@ -1,3 +1,5 @@
+-- The definitions of the settings: flags, numbers, addresses and renditions in the arguments, the commands as `clap` parses them, and the first
+-- invalid argument.
 pub mod Flags
 pub mod Numbers
 pub mod Renditions

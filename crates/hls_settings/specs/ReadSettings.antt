@@ -28,11 +28,11 @@ abbrev pub rendition_arguments : Option (List Text) → List Text
 rendition_arguments None = []
 rendition_arguments (Some arguments) = arguments
 
--- arguments that specify renditions
+-- the arguments specify these renditions, one each
 abbrev pub ParsesTo : List Text → List Rendition → Type 0
 ParsesTo arguments renditions = map rendition_of arguments ≡ map Some renditions
 
--- the first argument that specifies no rendition
+-- argument n is the first that specifies no rendition
 pub record IsFirstUnread (arguments : List Text) (n : ℕ) : Type 0 where
   pub renditions : List Rendition
   pub front : ParsesTo (take n arguments) renditions
@@ -40,40 +40,42 @@ pub record IsFirstUnread (arguments : List Text) (n : ℕ) : Type 0 where
   pub is : slice_get arguments n ≡ Some argument
   pub unread : rendition_of argument ≡ None
 
--- the rendition of the nth argument. For the code alone
+-- the result is the rendition of the nth argument, the fault that it specifies none, or an allocation failure. For the code alone
 abbrev pub ReadsRendition : ℕ → Text → Result Rendition SettingsFault → Type 0
 ReadsRendition n argument (Ok rendition) = rendition_of argument ≡ Some rendition
 ReadsRendition n argument (Err (faults.Rendition m)) = (m ≡ n) × (rendition_of argument ≡ None)
 ReadsRendition n argument (Err faults.Memory) = Unit {0}
 ReadsRendition n argument (Err _) = ⊥
 
+-- the result is the renditions of the arguments, the first argument that specifies none, or an allocation failure
 abbrev pub ReadsRenditions : List Text → Result (Vec Rendition Global) SettingsFault → Type 0
 ReadsRenditions arguments (Ok renditions) = ParsesTo arguments renditions.items
 ReadsRenditions arguments (Err (faults.Rendition n)) = IsFirstUnread arguments n
 ReadsRenditions arguments (Err faults.Memory) = Unit {0}
 ReadsRenditions arguments (Err _) = ⊥
 
--- a tolerance of at least this many microseconds
+-- a rendition whose tolerance is raised to at least this many microseconds
 abbrev pub with_tolerance : ℕ → Rendition → Rendition
 with_tolerance least r = record r { tolerance = max r.tolerance least }
 
+-- the renditions with at least this tolerance, in microseconds, except the first
 abbrev pub tolerant_by : ℕ → List Rendition → List Rendition
 tolerant_by least [] = []
 tolerant_by least (first ∷ others) = first ∷ map (with_tolerance least) others
 
--- the renditions of a channel whose units are mended: starts may be moved in opposite directions, so all but the first have a tolerance of at
--- least twice that distance
+-- The renditions of a channel, whose units are mended if there are settings for that: mending may move starts in opposite directions,
+-- so only the first rendition may have a tolerance below twice that distance.
 abbrev pub tolerant : Option MendSettings → List Rendition → List Rendition
 tolerant None renditions = renditions
 tolerant (Some settings) renditions = tolerant_by (2 * settings.snap_us) renditions
 
--- renditions that a channel can't have: the first that is outside its limits
+-- the arguments specify renditions that a channel can't have, and rendition n is the first one outside its limits
 pub record IsFirstOutside (mending : Option MendSettings) (arguments : List Text) (n : ℕ) : Type 0 where
   pub renditions : List Rendition
   pub parses : ParsesTo arguments renditions
   pub outside : IsFirstBadRendition (tolerant mending renditions) n
 
--- the settings, if everything except the renditions is valid
+-- the settings are those of the server and a valid configuration with the renditions that the arguments specify
 pub record IsConfigured (server : ServerSettings) (arguments : List Text) (settings : Settings) : Type 0 where
   pub plain_is : settings.server ≡ server
   pub renditions : List Rendition
@@ -81,24 +83,26 @@ pub record IsConfigured (server : ServerSettings) (arguments : List Text) (setti
   pub config : settings.config ≡ configured_from server.timing.target server.timing.preferred (tolerant server.mending renditions) server.epoch
   pub valid : IsConfig settings.config
 
+-- the result is the configuration of a channel with these renditions, the first rendition outside its limits, or an allocation failure
 abbrev pub Configures : WindowSettings → Option ℤ → List Rendition → Result Config SettingsFault → Type 0
 Configures timing epoch renditions (Ok config) = (config ≡ configured_from timing.target timing.preferred renditions epoch) × IsConfig config
 Configures timing epoch renditions (Err (faults.Rendition n)) = IsFirstBadRendition renditions n
 Configures timing epoch renditions (Err faults.Memory) = Unit {0}
 Configures timing epoch renditions (Err _) = ⊥
 
+-- the result is the settings with the renditions of the arguments, the first invalid rendition, or an allocation failure
 abbrev pub MakesSettings : ServerSettings → List Text → Result Settings SettingsFault → Type 0
 MakesSettings server arguments (Ok settings) = IsConfigured server arguments settings
 MakesSettings server arguments (Err (faults.Rendition n)) = IsFirstUnread arguments n ⊎ IsFirstOutside server.mending arguments n
 MakesSettings server arguments (Err faults.Memory) = Unit {0}
 MakesSettings server arguments (Err _) = ⊥
 
--- by everything except the renditions
+-- the result, given the settings of everything except the renditions, or their fault
 abbrev pub SetsBy : Result ServerSettings SettingsFault → List Text → Result Settings SettingsFault → Type 0
 SetsBy (Ok server) arguments result = MakesSettings server arguments result
 SetsBy (Err fault) arguments result = result ≡ Err fault
 
--- arguments that `clap` refuses are refused for the first invalid one
+-- the result, given the faults of `clap` and the texts: arguments that `clap` refuses are refused for the first invalid one
 abbrev pub SetsIn : List Text → Kinds → Texts → Result Settings SettingsFault → Type 0
 SetsIn arguments [] texts result = SetsBy (server_settings_of texts) (rendition_arguments texts.renditions) result
 SetsIn arguments (k ∷ ks) texts result = result ≡ Err (faults.Arguments (wrong_argument serve_options true arguments))

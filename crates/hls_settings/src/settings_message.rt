@@ -112,7 +112,7 @@ impl<'a, S: AsStr> Display for SettingsMessage<'a, SettingsFault, S> {
                 "give an address a.b.c.d:port before the renditions, as in 127.0.0.1:8080, without leading zeros"
             }
             SettingsFault::Rendition(n) => return write_wrong_rendition(f, n),
-            SettingsFault::Memory => "memory was wanted",
+            SettingsFault::Memory => "out of memory",
         };
         f.write_str(text)
     }
@@ -137,7 +137,7 @@ impl<'a, S: AsStr> Display for SettingsMessage<'a, CutOptionsFault, S> {
             CutOptionsFault::Epoch => EPOCH,
             CutOptionsFault::Each => "--each excludes --preferred and --certificate",
             CutOptionsFault::Unplanned => "--certificate and --charge need --preferred",
-            CutOptionsFault::Memory => "memory was wanted",
+            CutOptionsFault::Memory => "out of memory",
         };
         f.write_str(text)
     }

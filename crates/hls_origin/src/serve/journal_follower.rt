@@ -85,7 +85,7 @@ impl<'a, T: Threads> StateFollower for JournalFollower<'a, T> {
             "the channel continues without it"
         };
         let _ = eprintln!(self.host;
-            "{level}serve: journal lost: {now}, and no start takes the folder"
+            "{level}serve: journal lost: {now}, and no later start uses the folder"
         );
         if self.follower.mark(self.host).is_err() {
             let _ = eprintln!(self.host;

@@ -54,12 +54,12 @@ fn write_text_fault<W: Write>(f: &mut Formatter<W>, fault: BaseFault) -> fmt::Re
     match fault {
         BaseFault::Unknown(number) => write!(
             f,
-            "line {} is none of a base of this channel: no such word, or no such rendition",
+            "line {} isn't one of a base of this channel: it has an unknown word or rendition",
             number.saturating_add(1)
         ),
         BaseFault::Unfinished => f.write_str("the last line has no line feed"),
         BaseFault::Missing(line) => write_line_fault(f, line, "is missing"),
-        BaseFault::Repeated(line) => write_line_fault(f, line, "is there twice"),
+        BaseFault::Repeated(line) => write_line_fault(f, line, "is repeated"),
         BaseFault::Invalid(line) => write_line_fault(
             f,
             line,

@@ -118,7 +118,7 @@ fn begin_channel(
         Ok(Some(base)) => {
             let (name, segments) = (PrintableArgument(folder), base.segments());
             let _ = eprintln!(host;
-                "serve: journal {name}: begins anew: lists continue with segment {segments}"
+                "serve: journal {name}: starts an empty channel: lists continue with segment {segments}"
             );
             Ok(())
         }

@@ -1,3 +1,4 @@
+-- Both ways of listing get places of this recording: the channel has one rendition, which has begun, and the snapshot returns its places.
 use Rattle.std.proofs.Common.{arith}
 use Rattle.hls_commands.proofs.Singles.{places_given}
 use Rattle.hls_commands.proofs.channel_listing.list_channel.Goals as goal

@@ -1,3 +1,4 @@
+-- The line that is found is the first one with this name, since the split yields the lines of the text in order.
 use Rattle.std.proofs.Common.{rules, tests, nat_eq}
 use Rattle.std.specs.Cmp.Lexicographic.{pointwise}
 use Rattle.std.proofs.lemmas.Iterator.Search.{find_from_yields_List}

@@ -1,3 +1,4 @@
+-- The names of the lines that the split yielded are those of all lines of the text.
 use Rattle.std.proofs.Common.{rules, tests, ◌∙◌, ◌==◌, ap, List, ℕ, flat_map}
 use Rattle.std.proofs.lemmas.Iterator.Consumers.{YieldsList-end}
 use Rattle.std.proofs.lemmas.Iterator.Splits.{YieldsList-from_slice_split}

@@ -1,3 +1,4 @@
+-- Before each round, the names are those of the lines so far, each followed by a line feed.
 use Rattle.std.proofs.Common.{◌≡◌, flat_map, map}
 use Rattle.hls_commands.specs.Explanations.{name_row}
 use Rattle.hls_commands.proofs.explanations.list_names.Given as goal

@@ -1,3 +1,4 @@
+-- The present place reaches the next if their pair is allowed (`step_more`).
 use Rattle.std.proofs.Common.{◌≡◌, ◌+◌, ◌∷◌, List, length, sym, ap, arith, subst}
 use Rattle.hls_check_tables.specs.declared.spot.Spot.{Spot}
 use Rattle.hls_check_tables.specs.Tables.{place_at}

@@ -1,3 +1,4 @@
+-- Each place before the present one reaches the next; the walk has the places after the present one.
 use Rattle.std.proofs.Common.{◌≡◌, ℕ, ◌+◌, ◌<◌, length, drop}
 use Rattle.hls_check_tables.specs.Tables.{place_at}
 use Rattle.hls_places_laws.specs.Order.{spots_of}

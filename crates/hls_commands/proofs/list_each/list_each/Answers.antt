@@ -1,3 +1,4 @@
+-- The playlist has a text since each place reaches the next (`each_has_text`), and its parts are those that were computed.
 use Rattle.std.proofs.Common.{List, ℕ, length, refl, subst, sym, arith}
 use Rattle.hls_m3u8.specs.declared.playlist.MediaSegment.{MediaSegment}
 use Rattle.hls_m3u8.specs.HasText.{HasText}

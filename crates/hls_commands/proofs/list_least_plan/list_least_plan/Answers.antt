@@ -1,3 +1,4 @@
+-- The last place of the table isn't after the end of the recording, since all places of the table are places of the recording.
 use Rattle.std.proofs.Common.{◌≤◌, length, subst, sym}
 use Rattle.hls_check_tables.specs.Tables.{Table}
 use Rattle.hls_playlists_laws.specs.SegmentLaws.{end_fragment}

@@ -1,3 +1,4 @@
+-- If a certificate is wanted, the output is that of the plan over the table; otherwise it is the playlist of the plan.
 use Rattle.hls_commands.proofs.ListedPlans.{certificate_listed, playlist_listed}
 use Rattle.hls_commands.proofs.list_least_plan.list_plan.Goals as goal
 

@@ -1,3 +1,4 @@
+-- The playlist by a plan of the table has a text (`plan_has_text`), and its parts are those that were computed.
 use Rattle.std.proofs.Common.{List, ℕ, length, subst, sym}
 use Rattle.hls_m3u8.specs.declared.playlist.MediaSegment.{MediaSegment}
 use Rattle.hls_m3u8.specs.HasText.{HasText}

@@ -1,3 +1,4 @@
+-- A read returns a piece, fails, or is at the end; each is a lemma of ReadLaws.
 use Rattle.std.proofs.Common.{◌≡◌, ◌∙◌, ◌++◌, List, ℕ, length, take, ap, sym, arith, subst, refl, rules, []}
 use Rattle.std.specs.Io.KnownBytes.{Consumes}
 use Rattle.std.proofs.lemmas.List.{length-take-le, take-take}

@@ -1,3 +1,4 @@
+-- The bytes read so far are the first ones of the stream, and those held are the first of them, up to the limit.
 use Rattle.std.proofs.Common.{◌≡◌, ◌<◌, ℕ, List, Some, length}
 use Rattle.hls_io.specs.Counted.{calls_left, failures_of, inner_of}
 use Rattle.hls_commands.proofs.ReadLaws.{Reading}

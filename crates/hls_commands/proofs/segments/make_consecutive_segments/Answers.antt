@@ -1,3 +1,4 @@
+-- One more segment is made from the present place to the next (`one_more`), until no place is left (`all_made`).
 use Rattle.std.proofs.Common.{refl, sym, ◌∙◌, ap}
 use Rattle.hls_playlists_laws.specs.JobPlaylists.{job_layout}
 use Rattle.hls_playlists_laws.specs.Segments.{segment_between}

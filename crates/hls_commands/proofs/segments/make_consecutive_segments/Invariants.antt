@@ -1,3 +1,4 @@
+-- The segments made and those along the places still to come are the segments along all places.
 use Rattle.std.proofs.Common.{◌≡◌, ◌++◌, All, false, length}
 use Rattle.hls_check_tables.specs.Tables.{IsPlaceOf}
 use Rattle.hls_places_laws.specs.Order.{spots_of}

@@ -1,3 +1,4 @@
+-- The table has the places that the walk yielded, which are all places and in order.
 use Rattle.std.proofs.Common.{◌≡◌, ◌++◌, List, ap, subst, ◌∙◌, sym, append-nil}
 use Rattle.hls_check_tables.specs.Tables.{table_of}
 use Rattle.hls_check_tables.specs.Orders.{IsOrderly}

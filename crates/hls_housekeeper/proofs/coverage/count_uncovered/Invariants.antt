@@ -1,3 +1,4 @@
+-- Before each round, the count is that of the units so far that are in none of the ranges; it is at most their number.
 use Rattle.std.proofs.Common.{◌≡◌, ◌≤◌, take}
 use Rattle.hls_housekeeper.specs.Coverage.{count_uncovered}
 use Rattle.hls_housekeeper.proofs.coverage.count_uncovered.Given as goal

@@ -1,3 +1,4 @@
+-- Before each round, none of the leader's newest units so far is such a boundary: the first one among the remaining units is the result.
 use Rattle.std.proofs.Common.{◌≡◌, ◌-◌, ◌≤◌, length, drop}
 use Rattle.std.specs.List.{find}
 use Rattle.hls_mend.specs.MendedUnits.{is_audio}

@@ -1,3 +1,5 @@
+-- In each round the pass looks at the state and submits a filler that is needed there; whether it ends early or not, it did nothing else. It
+-- keeps its turn.
 use Rattle.hls_housekeeper.proofs.Keeping.{kept_filling, kept_looking, kept_still}
 use Rattle.hls_housekeeper.proofs.filling.fill_rendition.Goals as goal
 

@@ -1,3 +1,4 @@
+-- Before each round, the pass keeps its turn, and so far it only looked at states and submitted what upkeep yields and needed fillers.
 use Rattle.std.proofs.Common.{◌≡◌, ℕ, Some}
 use Rattle.hls_housekeeper.specs.Housekeeping.{RunsUpkeep}
 use Rattle.hls_housekeeper.proofs.filling.fill_rendition.Given as goal

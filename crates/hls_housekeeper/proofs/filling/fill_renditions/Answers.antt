@@ -1,3 +1,5 @@
+-- One rendition after the other is filled: the pass keeps its turn, and all that it does is to look at states and to submit needed fillers or
+-- what upkeep yields.
 use Rattle.hls_housekeeper.proofs.Keeping.{kept_further, kept_still}
 use Rattle.hls_housekeeper.proofs.filling.fill_renditions.Goals as goal
 

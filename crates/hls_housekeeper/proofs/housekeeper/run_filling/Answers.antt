@@ -1,3 +1,4 @@
+-- If units aren't mended, the pass does nothing, which is a run of the housekeeper's actions.
 use Rattle.hls_housekeeper.proofs.Keeping.{kept_still}
 use Rattle.hls_housekeeper.proofs.housekeeper.run_filling.Goals as goal
 

@@ -1,3 +1,5 @@
+-- Each round looks at the state, fills renditions and runs upkeep. So, until the server closes, the pass submits only what upkeep yields and
+-- needed fillers.
 use Rattle.hls_housekeeper.proofs.Keeping.{kept_further, kept_looking, kept_still}
 use Rattle.hls_housekeeper.proofs.housekeeper.run_housekeeper.Goals as goal
 

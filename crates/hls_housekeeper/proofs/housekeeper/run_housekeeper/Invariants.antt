@@ -1,3 +1,5 @@
+-- Before each round, the pass keeps its turn, and so far it only looked at states and submitted what upkeep yields and needed fillers. The loop's
+-- iterator never ends.
 use Rattle.std.proofs.Common.{◌≡◌}
 use Rattle.hls_housekeeper.specs.Housekeeping.{RunsUpkeep}
 use Rattle.hls_housekeeper.proofs.housekeeper.run_housekeeper.Given as goal

@@ -1,3 +1,5 @@
+-- In each round the pass looks at the state and submits the event that upkeep yields there. Whether it ends up to date, holds back a trim or is
+-- refused, it did nothing else.
 use Rattle.hls_housekeeper.proofs.Keeping.{kept_bringing, kept_looking, kept_still}
 use Rattle.hls_housekeeper.proofs.housekeeper.run_upkeep.Goals as goal
 

@@ -1,3 +1,5 @@
+-- Before each round, the pass keeps its turn, and so far it only looked at states and submitted what upkeep yields. The loop's iterator never
+-- ends.
 use Rattle.std.proofs.Common.{◌≡◌, Option}
 use Rattle.hls_mend_laws.specs.declared.settings.MendSettings.{MendSettings}
 use Rattle.hls_housekeeper.specs.Housekeeping.{RunsUpkeep}

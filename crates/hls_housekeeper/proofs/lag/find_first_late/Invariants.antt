@@ -1,3 +1,4 @@
+-- Before each round, none of the renditions so far is late.
 use Rattle.hls_housekeeper.specs.Lags.{NoneLate}
 use Rattle.hls_housekeeper.proofs.lag.find_first_late.Given as goal
 

@@ -1,3 +1,4 @@
+-- Before each round, the follower's pass is of the channel's turn.
 use Rattle.std.proofs.Common.{◌≡◌}
 use Rattle.hls_server.proofs.follower.await_end.Given as goal
 

@@ -1,3 +1,4 @@
+-- All passes of a turn that was just opened are of that turn.
 use Rattle.std.proofs.Common.{◌≡◌, All, List, sym, subst}
 use Rattle.hls_turn.{specs.Passes.PassData, proofs.Openings.all_opening}
 use Rattle.hls_server.proofs.server.run_server.Goals as goal

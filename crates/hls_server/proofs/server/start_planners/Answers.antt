@@ -1,3 +1,4 @@
+-- What a planner's thread captures may be sent to it: the runtime, the jobs and the gate are shared, and all are Sync.
 use denote.Exit.{yes}
 use denote.Param.Send.{arg_send, param_send, shr_send}
 use Rattle.std.specs.Prelude.{codes}

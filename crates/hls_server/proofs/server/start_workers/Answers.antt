@@ -1,3 +1,4 @@
+-- What a worker's thread captures may be sent to it: the runtime and the context that are shared are Sync, its input, output and pass are Send.
 use denote.Exit.{yes}
 use denote.Param.Send.{arg_send, param_send, shr_send}
 use Rattle.std.specs.Prelude.{codes}

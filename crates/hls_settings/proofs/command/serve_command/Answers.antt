@@ -1,3 +1,4 @@
+-- The command that is built has the options of `serve` in their order, then an optional address, and then any number of renditions.
 use Rattle.std.proofs.Common.{◌≡◌, ◌∙◌, ap₂, codes, rules}
 use Rattle.std.proofs.lemmas.Result.{IfOk-weaker}
 use Rattle.clap.specs.Words.{app_of, rule_of, with_rule}

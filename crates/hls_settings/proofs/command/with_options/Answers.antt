@@ -1,3 +1,4 @@
+-- After one more option is added, the command so far with the remaining options is still the command with all.
 use Rattle.std.proofs.Common.{◌∙◌, ap, arith}
 use Rattle.clap.specs.Words.{app_of, with_rule}
 use Rattle.hls_settings.proofs.Building.{one_more}

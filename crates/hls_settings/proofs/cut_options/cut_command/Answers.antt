@@ -1,3 +1,4 @@
+-- The command that is built has the options of `cut`, in their order.
 use Rattle.hls_settings.specs.Options.{cut_app}
 use Rattle.hls_settings.proofs.cut_options.cut_command.Goals as goal
 

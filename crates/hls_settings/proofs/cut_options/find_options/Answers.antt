@@ -1,3 +1,5 @@
+-- If `clap` accepts the arguments after `cut`, its matches give the options that the arguments set; if it refuses them, the fault is that of the
+-- first invalid argument.
 use Rattle.std.proofs.Common.{◌≡◌, ◌∙◌, ap}
 use Rattle.clap.specs.Words.{is_simple_and_free, app_of}
 use Rattle.hls_settings.proofs.OptionWords.{cut_is_simple_and_free, taken_words, refused_words}

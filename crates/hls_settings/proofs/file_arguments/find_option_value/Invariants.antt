@@ -1,3 +1,4 @@
+-- Before each round, the remaining arguments, and whether the one before them named the option, give the same value as all arguments.
 use Rattle.std.proofs.Common.{◌≡◌, drop, map}
 use Rattle.hls_settings.specs.FileArguments.{option_value, value_from}
 use Rattle.hls_settings.proofs.file_arguments.find_option_value.Given as goal

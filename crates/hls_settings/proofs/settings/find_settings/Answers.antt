@@ -1,3 +1,5 @@
+-- If `clap` accepts the arguments after `serve`, the settings made of its matches are those of the arguments; if it refuses them, the fault is
+-- that of the first invalid argument.
 use Rattle.std.proofs.Common.{◌≡◌, ◌∙◌, ap}
 use Rattle.clap.specs.Words.{is_simple_and_free, app_of}
 use Rattle.hls_settings.proofs.Words.{serve_is_simple_and_free, taken_words, refused_words}

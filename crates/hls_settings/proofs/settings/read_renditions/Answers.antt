@@ -1,3 +1,5 @@
+-- After one more argument is read, the renditions are those of the arguments so far. If it is no rendition, it is the first one that isn't, and
+-- the fault has its number.
 use Rattle.std.proofs.Common.{◌≡◌, Err, rules, length, ap, arith, length-append}
 use Rattle.hls_core_laws.specs.declared.rendition.Rendition.{Rendition}
 use Rattle.hls_settings.proofs.Says.{say_more, unread_at}

@@ -1,3 +1,4 @@
+-- Before each round, the arguments so far are read as the renditions so far, one for each.
 use Rattle.std.proofs.Common.{◌≡◌, length, map, take}
 use Rattle.hls_settings.specs.ReadSettings.{ParsesTo}
 use Rattle.hls_settings.proofs.settings.read_renditions.Given as goal

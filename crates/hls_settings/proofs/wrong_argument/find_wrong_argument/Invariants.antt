@@ -1,3 +1,4 @@
+-- Before each round, no argument so far is invalid: the remaining ones, after those before them, give the same result as all.
 use Rattle.std.proofs.Common.{◌≡◌, drop, map, take}
 use Rattle.hls_settings.specs.WrongArguments.{wrong_after, wrong_argument}
 use Rattle.hls_settings.proofs.wrong_argument.find_wrong_argument.Given as goal

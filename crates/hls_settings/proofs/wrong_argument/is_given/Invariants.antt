@@ -1,3 +1,4 @@
+-- Before each round, no argument so far gives the option: it is given exactly if a remaining argument gives it.
 use Rattle.std.proofs.Common.{◌≡◌, drop, map}
 use Rattle.hls_settings.specs.WrongArguments.{is_given}
 use Rattle.hls_settings.proofs.wrong_argument.is_given.Given as goal

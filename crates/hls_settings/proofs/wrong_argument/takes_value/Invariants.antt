@@ -1,3 +1,4 @@
+-- Before each round, none of the options so far has the name: the remaining ones give the same result as all.
 use Rattle.std.proofs.Common.{◌≡◌, drop, map}
 use Rattle.hls_settings.specs.WrongArguments.{takes_value}
 use Rattle.hls_settings.proofs.wrong_argument.takes_value.Given as goal

@@ -1,3 +1,4 @@
+-- The line gets a space and the digits of the number.
 use Rattle.hls_commands.proofs.PrintLaws.{one_number}
 use Rattle.hls_commands.proofs.check.printing.push_number.Goals as goal
 

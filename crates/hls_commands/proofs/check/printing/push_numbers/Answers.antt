@@ -1,3 +1,4 @@
+-- A fault without numbers appends nothing to the line.
 use Rattle.std.proofs.Common.{arith}
 use Rattle.hls_commands.proofs.PrintLaws.{no_numbers}
 use Rattle.hls_commands.proofs.check.printing.push_numbers.Goals as goal

@@ -1,3 +1,4 @@
+-- The line gets the two numbers in order, each with a space before it.
 use Rattle.hls_commands.proofs.PrintLaws.{two_numbers}
 use Rattle.hls_commands.proofs.check.printing.push_pair.Goals as goal
 

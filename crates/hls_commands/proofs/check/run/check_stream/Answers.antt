@@ -1,3 +1,4 @@
+-- The result is the answer to the whole text that was read. After a failed read there is none; if memory ran out, the answer says so.
 use Rattle.hls_commands.proofs.AnswerLaws.{tells_answer, tells_failed, tells_memory}
 use Rattle.hls_commands.proofs.check.run.check_stream.Goals as goal
 

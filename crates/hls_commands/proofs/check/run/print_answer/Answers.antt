@@ -1,3 +1,5 @@
+-- After a failed write a beginning of the answer's line is printed; otherwise the whole line is, and the end says whether the answer was a
+-- verdict or a fault.
 use Rattle.std.proofs.Common.{◌∙◌}
 use Rattle.hls_commands.proofs.AnswerLaws.{prints_beginning, prints_refused, prints_yes}
 use Rattle.hls_commands.proofs.check.run.print_answer.Goals as goal

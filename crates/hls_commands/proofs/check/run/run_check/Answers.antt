@@ -1,3 +1,4 @@
+-- A run prints the answer to the text that it read; after a failed read it prints nothing.
 use Rattle.hls_commands.proofs.AnswerLaws.{runs_printed, runs_unread}
 use Rattle.hls_commands.proofs.check.run.run_check.Goals as goal
 

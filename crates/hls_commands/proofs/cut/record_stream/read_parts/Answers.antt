@@ -1,3 +1,4 @@
+-- A read returns a piece that is recorded or refused, fails, or is at the end; each is a lemma of GatherLaws.
 use Rattle.std.proofs.Common.{◌≡◌, ◌∙◌, List, ℕ, Err, take, ap, arith, subst, refl, [], rules}
 use Rattle.std.specs.Io.KnownBytes.{Consumes}
 use Rattle.hls_io.specs.Counted.{inner_of}

@@ -1,3 +1,4 @@
+-- The bytes read so far are the first ones of the stream, and the recorder has recorded them.
 use Rattle.std.proofs.Common.{◌≡◌, ◌<◌, List, ℕ, Some, length}
 use Rattle.hls_io.specs.Counted.{calls_left, failures_of, inner_of}
 use Rattle.hls_commands.proofs.GatherLaws.{Reading}

@@ -1,3 +1,5 @@
+-- A run writes the playlist or the certificate of the stream. If there is no plan, it writes the certificate of that, if it was requested;
+-- after a refusal it writes nothing.
 use Rattle.std.proofs.Common.{◌∙◌, true, false, ap, sym}
 use Rattle.hls_commands.specs.CutRun.{bytes_of, is_cut}
 use Rattle.hls_commands.proofs.RunLaws.{runs_err, runs_printed}

@@ -1,3 +1,5 @@
+-- A stream that has ended without a refusal has one rendition that has begun, so it can be listed. The result is its listing, or the fault
+-- of listing it.
 use Rattle.std.proofs.Common.{rules, Ok, Err}
 use Rattle.hls_commands.proofs.Begun.{ended_is_listed, ended_is_single}
 use Rattle.hls_commands.proofs.RunLaws.{ends_listed, ends_unlisted}

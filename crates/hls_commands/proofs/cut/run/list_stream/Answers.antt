@@ -1,3 +1,4 @@
+-- If the whole stream was recorded, the result is its listing, and no failed read was counted; otherwise it is the fault of recording it.
 use Rattle.hls_commands.proofs.RunLaws.{counts_listed, takes_err, takes_ok}
 use Rattle.hls_commands.proofs.cut.run.list_stream.Goals as goal
 

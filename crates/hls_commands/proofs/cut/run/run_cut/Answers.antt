@@ -1,3 +1,5 @@
+-- Invalid arguments end a run in their usage fault, before anything is read or written. If memory runs out for the options, it ends
+-- in `Memory`.
 use Rattle.std.proofs.Common.{rules}
 use Rattle.hls_commands.proofs.RunLaws.{runs_unused, runs_without_memory, told_wrong}
 use Rattle.hls_commands.proofs.cut.run.run_cut.Goals as goal

@@ -1,3 +1,4 @@
+-- Three texts are appended one after another: the number of segments, their total length, and the unit.
 use Rattle.std.proofs.Common.{◌++◌, ◌∙◌, ap}
 use Rattle.std.specs.Prelude.{codes}
 use Rattle.hls_commands.specs.LintAnswer.{count_words, length_words, total_us}

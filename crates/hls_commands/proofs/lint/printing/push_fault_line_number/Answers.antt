@@ -1,3 +1,4 @@
+-- A fault without a line number appends nothing to the line.
 use Rattle.std.proofs.Common.{arith}
 use Rattle.hls_commands.proofs.LintLines.{no_lines}
 use Rattle.hls_commands.proofs.lint.printing.push_fault_line_number.Goals as goal

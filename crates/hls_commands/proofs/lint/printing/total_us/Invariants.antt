@@ -1,3 +1,4 @@
+-- The total so far and the lengths of the segments still to come add up to the total of all, if both are capped.
 use Rattle.std.proofs.Common.{◌≡◌, ◌+◌, ◌≤◌, drop}
 use Rattle.std.specs.Prelude.{min}
 use Rattle.std.specs.List.{sum_by}

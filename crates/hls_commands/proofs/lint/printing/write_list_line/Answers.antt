@@ -1,3 +1,4 @@
+-- The line is its four parts and a line feed, added one after another (`whole_line`).
 use Rattle.std.proofs.Common.{◌++◌, ◌∷◌, [], ◌∙◌, ap}
 use Rattle.hls_m3u8.specs.Playlist.{playlist_of}
 use Rattle.hls_commands.specs.LintAnswer.{extent, header, sequences, kind_words, end_words}

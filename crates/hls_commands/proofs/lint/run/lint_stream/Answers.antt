@@ -1,3 +1,4 @@
+-- The result is the line about the whole text that was read. After a failed read there is none; if memory ran out, the fault says so.
 use Rattle.hls_commands.proofs.LintLaws.{tells_line, tells_failed, tells_memory}
 use Rattle.hls_commands.proofs.lint.run.lint_stream.Goals as goal
 

@@ -1,3 +1,4 @@
+-- If the write succeeds, the whole text is printed; otherwise a beginning of it is.
 use Rattle.hls_commands.proofs.LintLaws.{prints_whole, prints_beginning}
 use Rattle.hls_commands.proofs.lint.run.print_text.Goals as goal
 

@@ -1,3 +1,4 @@
+-- A run prints the line about the text that it read; after a failed read it prints nothing.
 use Rattle.hls_commands.proofs.LintLaws.{runs_printed, runs_unread}
 use Rattle.hls_commands.proofs.lint.run.run_lint.Goals as goal
 

@@ -1,3 +1,4 @@
+-- Before each round, the bytes read so far are within the buffer, whose length never changes.
 use Rattle.std.proofs.Common.{◌≡◌, ◌-◌, ◌≤◌, length}
 use Rattle.hls_origin.proofs.serve.load_base.read_file.Given as goal
 

@@ -10,9 +10,11 @@ use Rattle.hls_origin.proofs.Sending.{declared_send, store_send}
 use Rattle.hls_origin.proofs.serve.renew_log.LastState.TheSendSync as last_state
 use Rattle.hls_origin.proofs.serve.run.serve_logs.Goals as goal
 
+-- the last state, if there is one, may be sent to another thread
 option_send : IsSend (option.the_row last.the_row)
 option_send = search (sendable, crosses, last_state.the_send) depth 30
 
+-- the follower of the journal may be sent to another thread, if the source of threads that it borrows may be shared
 journal_send : (a : NamedLft) (T : RattleType) → IsSync T → IsSend (journal.the_row a T)
 journal_send a T sync = declared_send (journal.the_type a T) (shr_send _ _ _ sync, (search (sendable, crosses) depth 30, (search (sendable, crosses) depth 30, (mut_send _ _ _ store_send, (search (sendable, crosses) depth 30, (search (sendable, crosses) depth 30, (search (sendable, crosses) depth 30, (search (sendable, crosses) depth 30, (search (sendable, crosses) depth 30, (mut_send _ _ _ option_send, (search (sendable, crosses) depth 30, tt)))))))))))
 

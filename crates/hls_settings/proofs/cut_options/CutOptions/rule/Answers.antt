@@ -1,3 +1,4 @@
+-- The rule that these options choose has its charge within the limit, since the options' charge is.
 use Rattle.hls_settings.proofs.Charges.{rule_in_range}
 use Rattle.hls_settings.proofs.cut_options.CutOptions.rule.Goals as goal
 

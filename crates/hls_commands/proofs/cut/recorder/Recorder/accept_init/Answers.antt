@@ -1,3 +1,4 @@
+-- An init section that can be read begins the rendition; one that can't is refused with the fault of reading it.
 use Rattle.std.proofs.Common.{◌≡◌, rules, List, ℕ, Ok, Err, subst}
 use Rattle.hls_media_laws.specs.Inits.{init_of}
 use Rattle.hls_core.specs.declared.feed_fault.StreamFault.TheVariants.{Media}

@@ -1,3 +1,4 @@
+-- A unit is read under the recording's init section, if there is one (AcceptLaws).
 use Rattle.std.proofs.Common.{◌≡◌, rules, Some, None, Ok, Err}
 use Rattle.hls_media_laws.specs.UnitFacts.{facts}
 use Rattle.hls_core.specs.Getters.{recording_of}

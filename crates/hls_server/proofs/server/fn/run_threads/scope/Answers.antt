@@ -1,3 +1,4 @@
+-- What the threads of the follower and the housekeeper capture may be sent to them: it is Send, and what they share is Sync.
 use denote.Exit.{no, yes}
 use denote.Param.{param}
 use denote.Param.Send.{IsSend, IsSync, arg_send, param_send, shr_send}
