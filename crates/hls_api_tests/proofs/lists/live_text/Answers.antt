@@ -1,3 +1,4 @@
+-- The playlist can be written: each live playlist of a state has a text.
 use Rattle.std.proofs.Common.{◌∙◌, option_map, ap, sym}
 use Rattle.hls_m3u8.specs.Playlist.{playlist_of}
 use Rattle.hls_playlists_laws.proofs.Callers.{live-lists-have-texts}

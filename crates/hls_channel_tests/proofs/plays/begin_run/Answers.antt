@@ -1,3 +1,4 @@
+-- The init section fits the first state of the channel, so the run can begin with it.
 use Rattle.hls_channel_tests.proofs.plays.begin_run.Goals as goal
 
 pub with_event-requires-clause-fits : goal.with_event-requires-clause-fits

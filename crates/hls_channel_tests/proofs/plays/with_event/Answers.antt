@@ -1,3 +1,4 @@
+-- The run's actions, with the event appended, lead to the state that the event gives.
 use Rattle.hls_catchup.proofs.Callers.{run_with_event}
 use Rattle.hls_channel_tests.proofs.plays.with_event.Goals as goal
 

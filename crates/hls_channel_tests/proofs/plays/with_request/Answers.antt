@@ -1,3 +1,4 @@
+-- The run's actions, with a request appended, lead to the same state: a request changes nothing.
 use Rattle.hls_catchup.proofs.Callers.{run_with_request}
 use Rattle.hls_channel_tests.proofs.plays.with_request.Goals as goal
 

@@ -1,3 +1,4 @@
+-- Before each round, the bytes so far and the remaining pieces are all pieces.
 use Rattle.std.proofs.Common.{◌≡◌, ◌++◌, map, drop}
 use Rattle.std.specs.List.{concat}
 use Rattle.hls_fakes.proofs.boxes.concat_pieces.Given as goal

@@ -1,3 +1,4 @@
+-- Before each round, the bytes so far and those of the remaining numbers are the bytes of all numbers: four for each number so far.
 use Rattle.std.proofs.Common.{◌≡◌, ◌++◌, ◌*◌, drop, length}
 use Rattle.hls_fakes.specs.Boxes.{number_bytes}
 use Rattle.hls_fakes.proofs.boxes.number_bytes.Given as goal

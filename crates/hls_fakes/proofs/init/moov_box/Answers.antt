@@ -1,3 +1,4 @@
+-- The bytes are those of the defined `moov`, since the boxes in it, the track and the defaults, have their defined bytes.
 use Rattle.hls_fakes.proofs.init.moov_box.Goals as goal
 
 pub returns-clause-bytes : goal.returns-clause-bytes

@@ -1,3 +1,4 @@
+-- The output that remains to be sent gets shorter in each round.
 use Rattle.std.proofs.Common.{length}
 use Rattle.hls_fakes.proofs.outputs.collect_sent.Given as goal
 

@@ -1,3 +1,4 @@
+-- The output that remains to be compared gets shorter in each round.
 use Rattle.std.proofs.Common.{length}
 use Rattle.hls_fakes.proofs.outputs.sends_exactly.Given as goal
 

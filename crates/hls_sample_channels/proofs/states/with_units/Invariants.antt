@@ -1,3 +1,4 @@
+-- Before each round, the log has one event more than at first for the init section, and one for each unit so far.
 use Rattle.std.proofs.Common.{◌≡◌, ◌+◌, length}
 use Rattle.hls_sample_channels.proofs.states.with_units.Given as goal
 
