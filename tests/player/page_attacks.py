@@ -124,7 +124,7 @@ def a_channel_that_stands(world, canned):
     page = world.browser.open(ladder.url())
     check("a channel plays", wait_seen(page, lambda s: s["frames"] > 25, 20)["frames"] > 25, seen(page))
     said = wait_seen(page, lambda s: s["words"] != "", 45)
-    check("where nothing new comes the page says so", "Nothing new comes" in said["words"], said)
+    check("where nothing new comes the page says so", "sending anything new" in said["words"], said)
     check("on the picture too", page.run("!document.getElementById('note').hidden"))
     world.shot(page, "watch_stands.png")
     upto[0] = 80
@@ -286,7 +286,7 @@ def a_plan_without_end(world, canned):
     with open(os.path.join(os.path.dirname(os.path.abspath(__file__)), "..", "..", "samples", "five_units.cert")) as sample, open(world.path("small.cert"), "w") as file:
         file.write(sample.read())
     page.ask("DOM.setFileInputFiles", files=[world.path("large.cert")], nodeId=node)
-    page.wait("/large.cert is checked/.test(document.getElementById('verdict').textContent)", 10)
+    page.wait("/Checking large.cert/.test(document.getElementById('verdict').textContent)", 10)
     page.ask("DOM.setFileInputFiles", files=[world.path("small.cert")], nodeId=node)
     page.wait("/small.cert: Checked/.test(document.getElementById('verdict').textContent)", 20)
     time.sleep(6)

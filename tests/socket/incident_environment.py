@@ -256,7 +256,7 @@ def few_descriptors(program, folder):
     origin = Poor(program, folder, ["--workers", "4"], ONE)
     found = []
     for _ in range(100):
-        found = [line for line in origin.lines() if line.endswith("that this process may have open: 16 are held")]
+        found = [line for line in origin.lines() if line.endswith("that this process may have open: at most 16 are accepted")]
         if found:
             break
         time.sleep(0.05)

@@ -65,7 +65,7 @@ def send_all(origin, begin, end):
 
 def one_stops(program, folder):
     """One of three encoders stops for 20 s of the others' time, and comes back; lists continue."""
-    waits, goes_on = r"serve: live lists wait for en, \d+ s behind", "serve: live lists go on"
+    waits, goes_on = r"serve: live lists wait for en, \d+ s behind", "serve: live lists continue"
     origin = Origin(program, folder, ["--target", "2", "--preferred", "2000000", "--window", "60000000"], THREE)
     send_all(origin, 0, 20)
     time.sleep(LOOK)
@@ -107,7 +107,7 @@ def one_never_begins(program, folder):
     time.sleep(LOOK)
     send_all(origin, 20, 32)
     time.sleep(LOOK)
-    seen_once(origin, "that it is over", "serve: live lists go on")
+    seen_once(origin, "that it is over", "serve: live lists continue")
     never(origin, "that renditions begin at different moments", r"serve: .* are no places.*")
     origin.stop()
 
@@ -134,7 +134,7 @@ def real_encoder_stops(program, folder):
     check("lists wait for it", segments(origin) <= before + 2, (before, segments(origin)))
     pushed[2] = push(2, 20, round(time.monotonic() - begun))
     time.sleep(14)
-    seen_once(origin, "that it is back", "serve: live lists go on")
+    seen_once(origin, "that it is back", "serve: live lists continue")
     check("lists go on", segments(origin) > before + 4, (before, segments(origin)))
     for encoder in pushed:
         encoder.kill()
@@ -212,14 +212,14 @@ class LimitedOrigin(Origin):
 def told_at_the_start(program, folder):
     """Settings that no machine keeps to."""
     origin = Origin(program, folder, ["--workers", "4", "--keep", "9000000000000000"], THREE)
-    seen_once(origin, "too much kept", r"serve: these renditions want \d+ MB for what --keep and --window say, and this machine has \d+ MB")
+    seen_once(origin, "too much kept", r"serve: these renditions need \d+ MB for --keep and --window, and this machine has \d+ MB")
     wanted = int(re.search(r"want (\d+) MB", "\n".join(origin.lines()))[1])
     check("as the formula has it", abs(wanted - 3928000 / 8 * 9000000052 / 1e6) < 2, wanted)
     origin.stop()
     origin = LimitedOrigin(program, folder, [], THREE, name="limited")
     seen_once(origin, "a limit on the address space",
-              r"serve: these renditions want 1\d{3} MB for what --keep and --window say, and this process's address space is limited to 1024 MB")
-    seen_once(origin, "a limit on open files", "serve: --connections 4096 wants more than the 1024 files that this process may have open: 960 are held")
+              r"serve: these renditions need 1\d{3} MB for --keep and --window, and this process's address space is limited to 1024 MB")
+    seen_once(origin, "a limit on open files", "serve: --connections 4096 needs more than the 1024 files that this process may have open: at most 960 are accepted")
     origin.stop()
 
 

@@ -152,14 +152,14 @@ class Channels(unittest.TestCase):
         self.assertEqual(self.faults('ADDRESS="127.0.0.1:8080"\nRENDITIONS="v:video:1000000:0"\n'), [])
 
     def test_each_fault(self):
-        for old, new, said in (("OPTIONS", "OPTION", "OPTION is no key of a channel; the keys are OPTIONS"), ('EDGE="/news"', 'EDGE="/hls"', "path of the edge's own"),
+        for old, new, said in (("OPTIONS", "OPTION", "OPTION: unknown key; the keys are OPTIONS"), ('EDGE="/news"', 'EDGE="/hls"', "one of the edge's own paths"),
                                ('EDGE="/news"', 'EDGE="/News"', "neither /PREFIX"), ('EDGE="/news"', 'EDGE="/news"\nSENDERS="10.0.0.1/8"', "SENDERS"),
-                               ('EDGE="/news"', 'EDGE="/news"\nSTANDBY="origin:80"', "no IP:PORT"), ('EDGE="/news"', 'EDGE="/news"\nSTANDBY="10.0.0.2:80"', "needs a journal"), ("--target 4", "--wrong 4", "unrecognized option --wrong"),
+                               ('EDGE="/news"', 'EDGE="/news"\nSTANDBY="origin:80"', "isn't IP:PORT"), ('EDGE="/news"', 'EDGE="/news"\nSTANDBY="10.0.0.2:80"', "needs a journal"), ("--target 4", "--wrong 4", "unrecognized option --wrong"),
                                ("GROUP=\"48\"", "GROUP=\"50\"", "--preferred"), ("--target 4", "--target 4 --journal /var/lib/hls_origin/old/channel", "in the folder of old"), ("1280x720", "1280x721", "SIZES"), ('ADDRESS="127.0.0.1:8080"\n', "", "ADDRESS is missing")):
             found = self.faults(NEWS.replace(old, new))
             self.assertEqual(len(found), 1, (new, found))
             self.assertIn(said, found[0])
-        self.assertIn("no channel's name", self.faults(NEWS, "News.conf")[0])
+        self.assertIn("isn't a valid name", self.faults(NEWS, "News.conf")[0])
 
     def test_start(self):
         """What only a start finds, without the channel's own journal; and an address of another machine, of a channel that is served here."""
@@ -167,17 +167,17 @@ class Channels(unittest.TestCase):
         self.assertEqual(self.faults(NEWS.replace("--target 4", "--target 4 --journal /var/lib/hls_origin/news/channel")), [])
         path = self.write("news.conf", NEWS.replace("127.0.0.1:8080", "192.0.2.7:8080"))
         self.assertEqual(channel_checks.faults_of(path, self.folder), [])
-        self.assertEqual(channel_checks.faults_of(path, self.folder, is_served_here=True), ["ADDRESS: 192.0.2.7 is no address of this machine"])
+        self.assertEqual(channel_checks.faults_of(path, self.folder, is_served_here=True), ["ADDRESS: 192.0.2.7 isn't an address of this machine"])
 
     def test_other_channels(self):
         self.write("sport.conf", NEWS.replace("127.0.0.1:8080", "0.0.0.0:8080"))
         self.write("broken.conf", '"')
-        self.assertEqual(self.faults(NEWS), ["ADDRESS: port 8080 is sport's", "INPUT: UDP port 9000 is sport's", "EDGE: /news is sport's"])
+        self.assertEqual(self.faults(NEWS), [f"{one} is already used by sport" for one in ("ADDRESS: port 8080", "INPUT: UDP port 9000", "EDGE: /news")])
         path = self.write("channels", "other /news 10.0.0.1:8080\n")
         os.remove(os.path.join(self.folder, "sport.conf"))
         found = channel_checks.faults_of(self.write("news.conf", NEWS), self.folder, path)
         self.assertEqual(len(found), 1)
-        self.assertIn("/news is other's", found[0])
+        self.assertIn("/news is already used by other", found[0])
 
     def test_senders(self):
         self.assertEqual(channel_checks.senders_of({"STANDBY": "10.0.0.2:8080"}), channel_checks.PRIVATE.split())
