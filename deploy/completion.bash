@@ -1,12 +1,12 @@
-# Completion for bash of the words and options of hls_origin and the tools around it, from what each prints of itself; nothing is to be
-# changed for a site. Any other word is a channel of this machine or, if none fits, a file.
+# Bash completion for the commands and options of hls_origin and its tools, from their own help texts. Any other word completes to a
+# channel of this machine or, if none matches, to a file. Nothing here is to be changed for a site.
 
 _hls() {
     local word=${COMP_WORDS[COMP_CWORD]} tool=${COMP_WORDS[0]##*/} command=${COMP_WORDS[1]-} words
     case $tool,$COMP_CWORD,$command,$word in
         hls_origin,1,*) words="cut check lint explain serve size journal help --help --version" ;;
         hls_origin,*,explain,*) words=$(hls_origin explain) ;;
-        # what the help has under the command; size takes the options of serve
+        # the options in the help's section of the command; size takes those of serve
         hls_origin,*,-*) words=$(hls_origin --help | awk -v part="${command/size/serve}:" '/^[a-zA-Z]/ { on = $1 == part } on && /^  --/ { print $1 }') ;;
         hls_origin,*) words= ;;
         *,-*) words=$("$tool" --help 2> /dev/null | grep -oE -- '--[a-z][a-z-]+' | sort -u) ;;

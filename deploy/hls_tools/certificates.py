@@ -1,4 +1,4 @@
-"""Certificates of programmes (docs/CERTIFICATE.md): the program's checker, and the table of places with the allowed steps between them."""
+"""Certificates of programmes (docs/CERTIFICATE.md): a call of the program's checker, and the table of places with the allowed steps."""
 import datetime
 import itertools
 import os
@@ -52,12 +52,12 @@ class Certificate:
         rows = [[int(word) for word in line.split()] for line in lines[begin:begin + int(fields["places"])]]
         self.places = [[Spot(*row[at:at + 5]) for at in range(0, len(row), 5)] for row in rows]
         if not self.places or self.plan and self.plan[-1] >= len(self.places):
-            raise ValueError("it has no places, or its plan has others")
+            raise ValueError("it has no places, or its plan has a place that isn't in its table")
         # the first place's time in rendition 0, and the end of the media before the last place, in µs
         self.begins, self.ends = self.places[0][0].start, self.places[-1][0].prev_end
 
     def segments(self, rendition: int) -> list[tuple[int, int]]:
-        """Returns the planned segments of a rendition, each by its number of units and its length in µs."""
+        """Returns the planned segments of a rendition: for each its number of units and its length in µs."""
         steps = [(self.places[p][rendition], self.places[q][rendition]) for p, q in zip(self.plan, self.plan[1:])]
         return [(q.fragment - p.fragment, q.prev_end - p.start) for p, q in steps]
 
@@ -93,9 +93,9 @@ class Certificate:
     def _reason(self, last: int, first: int) -> str:
         away = [str(at) for at, (p, q) in enumerate(zip(self.places[last], self.places[first])) if p.run_out != q.run_in]
         if away:
-            return (f"rendition {' and '.join(away)} has a gap there, and not at a place that all renditions share: an encoder was away, and didn't resume where the "
-                    "others' groups of pictures begin")
-        return f"no place follows within the target of {self.target} s: for future recordings give the channel a longer --target, or its encoders more sync samples"
+            return (f"rendition {' and '.join(away)} has a gap there, not at a place where all renditions can be cut: its encoder was away, and "
+                    "didn't resume at the beginning of a group of pictures of the others")
+        return f"no place follows within the target of {self.target} s: for future recordings give the channel a longer --target, or have its encoders make more keyframes"
 
     def explain_no_cut(self) -> str:
         """Reports each gap, and what can be cut on either side of it."""
@@ -104,7 +104,7 @@ class Certificate:
         for end, begin in zip([0, *(end for _, end in pieces)], [*(begin for begin, _ in pieces), last]):
             if begin > end:
                 lines.append(f"  a gap from {format_time(self.places[end][0].prev_end)} to {format_time(self.places[begin][0].start)}: {self._reason(end, begin)}")
-        lines.append("what can be cut:" if pieces else "nothing of it can be cut")
+        lines.append("what can be cut:" if pieces else "no part of it can be cut")
         for begin, end in pieces:
             first, after = self.places[begin][0].start, self.places[end][0].prev_end
             lines.append(f"  --from {first} --to {after}   ({format_time(first)}, {(after - first) / 1e6:.3f} s)")

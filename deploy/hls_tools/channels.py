@@ -1,4 +1,4 @@
-"""A channel's file, /etc/hls_origin/CHANNEL.conf: read as systemd reads it, and tested before anything runs."""
+"""A channel's file, /etc/hls_origin/CHANNEL.conf: read as systemd reads it, and validated before anything runs."""
 import os
 import re
 import shlex
@@ -10,7 +10,7 @@ from .failures import Failure
 
 FOLDER = "/etc/hls_origin"
 SOUND_RATE = 48000
-AAC_FRAME = 1024            # samples: what an AAC frame holds, and what the encoder puts in front of its input
+AAC_FRAME = 1024            # samples in an AAC frame; the encoder puts one frame before its input
 BYTE = "(?:25[0-5]|2[0-4][0-9]|1[0-9]{2}|[1-9]?[0-9])"
 ADDRESS = rf"{BYTE}(?:\.{BYTE}){{3}}:(?:[1-9][0-9]{{0,3}}|[1-5][0-9]{{4}}|6[0-4][0-9]{{3}}|65[0-4][0-9]{{2}}|655[0-2][0-9]|6553[0-5])"
 NAME = "[a-z0-9][a-z0-9_-]{0,23}"
@@ -18,7 +18,7 @@ HOST = r"[A-Za-z0-9_]+(?:(?:\.|-+)[A-Za-z0-9_]+)*"
 
 
 class Wrong(Failure):
-    """A value of the file that can't be, and what to write."""
+    """A value of the file that is wrong, and what to write instead."""
 
     def __init__(self, text: object) -> None:
         super().__init__(text, 2)
@@ -53,12 +53,12 @@ def read_values(path: str) -> dict[str, str]:
 
 
 def name_of(path: str) -> str:
-    """Returns a channel's name, which its file has."""
+    """Returns a channel's name: that of its file."""
     return os.path.splitext(os.path.basename(path))[0]
 
 
 def reachable(address: str) -> str:
-    """Returns the address at which this machine reaches a listener: one that listens everywhere is asked here."""
+    """Returns the address at which this machine reaches a listener: 127.0.0.1 for one that listens at all addresses."""
     return address.strip().replace("0.0.0.0:", "127.0.0.1:")
 
 
@@ -87,14 +87,14 @@ def number(values: dict[str, str], name: str, default: int) -> int:
 
 
 def read_rendition(spec: str) -> Rendition:
-    """Reads an argument of serve."""
+    """Reads a rendition as an argument of serve."""
     if not (found := re.fullmatch(r"([A-Za-z0-9_-]{1,32}):(video|audio):([1-9][0-9]{3,12}):([0-9]{1,6})", spec)):
-        raise Wrong(f"RENDITIONS: {spec} isn't name:kind:bandwidth:tolerance, the bandwidth in bits a second, 1000 or more")
+        raise Wrong(f"RENDITIONS: {spec} isn't name:kind:bandwidth:tolerance, with a bandwidth of at least 1000 bits per second")
     return Rendition(found[1], found[2], int(found[3]), int(found[4]))
 
 
 def split_url(text: str) -> urllib.parse.SplitResult | None:
-    """Reads the URL of an origin, or of a channel at an edge; None if it is none."""
+    """Reads the URL of an origin, or of a channel at an edge; None if it isn't one."""
     try:
         url = urllib.parse.urlsplit(text)
         good = text.isascii() and url.scheme in ("http", "https") and re.fullmatch(HOST + "|[0-9a-f:.]+", url.hostname or "") and url.port != 0
@@ -107,27 +107,27 @@ def origins_of(values: dict[str, str]) -> list[str]:
     """Returns the URLs of the origins that get a channel's units."""
     found = values.get("ORIGINS", "").split() or ["http://" + reachable(values["ADDRESS"])]
     for place, origin in enumerate(found, 1):
-        # its text may have a password in it, so it isn't repeated
+        # the text may have a password, so it isn't printed
         if split_url(origin) is None:
-            raise Wrong(f"ORIGINS: address {place} isn't http://HOST:PORT, followed by a path or nothing")
+            raise Wrong(f"ORIGINS: address {place} isn't a URL such as http://HOST:PORT or https://HOST/PATH")
     return found
 
 
 class Ladder:
-    """What a channel's file says of its input and its ladder, tested."""
+    """A channel's input and ladder, read from its file and validated."""
 
     def __init__(self, values: dict[str, str], path: str) -> None:
         self.path, self.values = path, values
         for key in ("RENDITIONS", "ADDRESS", "SIZES", "RATE", "GROUP", "INPUT"):
             if not values.get(key, "").strip():
-                raise Wrong(f"{key} is missing; hls_ingest --help says what it is")
+                raise Wrong(f"{key} is missing; see hls_ingest --help")
         self.input_options, self.video_options = self.split("INPUT_OPTIONS", ""), self.split("VIDEO_OPTIONS", "-c:v libx264 -preset veryfast")
         self.renditions = [read_rendition(spec) for spec in values["RENDITIONS"].split()]
         self.videos = [one for one in self.renditions if one.kind == "video"]
         self.audios = [one for one in self.renditions if one.kind == "audio"]
         self.sizes = [self.size(text) for text in values["SIZES"].split()]
         if self.renditions[0].kind != "video" or len(self.sizes) != len(self.videos):
-            raise Wrong(f"SIZES has {len(self.sizes)} sizes for {len(self.videos)} videos, the first of which must be RENDITIONS' first")
+            raise Wrong(f"SIZES has {len(self.sizes)} sizes for {len(self.videos)} videos: it needs one for each, and RENDITIONS must begin with a video")
         self.canvas = max(self.sizes)
         try:
             self.rate, self.pictures = Fraction(values["RATE"]), int(values["GROUP"])
@@ -135,7 +135,7 @@ class Ladder:
             if not (1 <= self.rate <= 240 and self.pictures > 0):
                 raise ValueError
         except (ValueError, ZeroDivisionError) as why:
-            raise Wrong("RATE is 25 or 30000/1001, from 1 to 240; GROUP a number of pictures, 1 or more") from why
+            raise Wrong("RATE must be a number from 1 to 240, such as 25 or 30000/1001, and GROUP a number of pictures, 1 or more") from why
         if not re.fullmatch(ADDRESS, values["ADDRESS"].strip()):
             raise Wrong(f"ADDRESS: {values['ADDRESS']} isn't a.b.c.d:port")
         self.origins = origins_of(values)
@@ -147,7 +147,7 @@ class Ladder:
         return f"{found[1]}://{found[2]}" if found else self.values["INPUT"]
 
     def split(self, key: str, default: str) -> list[str]:
-        """Returns the arguments in a value with options of ffmpeg."""
+        """Splits a value with ffmpeg's options into arguments."""
         try:
             return shlex.split(self.values.get(key, default))
         except ValueError as why:
@@ -158,14 +158,14 @@ class Ladder:
         """Reads a picture's width and height."""
         found = re.fullmatch(r"([0-9]{2,4})x([0-9]{2,4})", text)
         if not found or any(int(found[at]) % 2 or int(found[at]) < 16 for at in (1, 2)):
-            raise Wrong(f"SIZES: {text} isn't WIDTHxHEIGHT in even numbers from 16 on")
+            raise Wrong(f"SIZES: {text} isn't WIDTHxHEIGHT, two even numbers, each 16 or more")
         return int(found[1]), int(found[2])
 
     def check_lengths(self) -> None:
-        """Tests that groups of pictures, units of audio, segments and dates fit each other."""
+        """Tests that groups of pictures, audio units, segments and dates fit together."""
         length = self.group * 1_000_000
         if length.denominator != 1:
-            raise Wrong(f"GROUP: {self.pictures} pictures aren't a whole number of microseconds at RATE {self.rate}; 60 are at 30000/1001")
+            raise Wrong(f"GROUP: {self.pictures} pictures don't last a whole number of microseconds at RATE {self.rate}; at 30000/1001 write 60")
         target, preferred = number(self.values, "--target", 6), number(self.values, "--preferred", 4_000_000)
         if preferred == 0 or preferred % length:
             better = max(1, int(preferred / length)) * int(length)
@@ -175,7 +175,7 @@ class Ladder:
         if option(self.values, "--epoch", "") != "1970-01-01T00:00:00Z":
             raise Wrong("OPTIONS: the encoders' clock counts from 1970; write --epoch 1970-01-01T00:00:00Z")
         for one in self.audios:
-            # a unit of audio begins with the first AAC frame that begins with or after a group of pictures
+            # an audio unit begins with the first AAC frame that begins at or after the start of a group of pictures
             if one.tolerance < AAC_FRAME * 1_000_000 // SOUND_RATE + 1:
                 raise Wrong(f"RENDITIONS: {one.name} has tolerance {one.tolerance}, less than an AAC frame; write 22000")
 

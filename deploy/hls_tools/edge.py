@@ -1,4 +1,4 @@
-"""The edge's files for nginx: the file of channels, and the maps and upstreams that are written from it (docs/EDGE.md)."""
+"""The edge's files for nginx: the file of channels, and the maps and upstreams that are generated from it (docs/EDGE.md)."""
 import fcntl
 import os
 import re
@@ -11,32 +11,32 @@ from .failures import Failure, run
 FOLDER = "/etc/nginx/hls_origin"
 LOCK = "/run/hls_edge.lock"
 HOST = r"[a-z0-9]([a-z0-9-]*[a-z0-9])?(\.[a-z0-9]([a-z0-9-]*[a-z0-9])?)*"
-# First words of the edge's own paths: a channel at one of these would hide them.
+# First segments of the edge's own paths: a channel at one of these would hide them.
 TAKEN = {"/hls", "/origin"}
 DOORS = ("operators", "encoders")
 Channel = tuple[list[str], list[str]]       # a channel's places at the edge, and its origins' addresses
-# A user with limits of his own. (A longer name doesn't fit into a bucket of nginx's hash, so it shares the limits of strangers.)
+# A user with separate limits. (A longer name doesn't fit into a bucket of nginx's hash, so it shares the limits of unknown users.)
 USER = r"[A-Za-z0-9_.@-]{1,20}"
 
 
 def address(text: str) -> str:
-    """An origin's address, tested. A name would have to be resolved when nginx starts."""
+    """Returns an origin's address if it is valid. A name isn't: nginx would have to resolve it when it starts."""
     if not re.fullmatch(ADDRESS, text):
-        raise Wrong(f"{text!r} is no IP:PORT")
+        raise Wrong(f"{text!r} isn't IP:PORT")
     return text
 
 
 def where(text: str) -> str:
-    """A channel's place: a path of every host, a host of its own, or every other host."""
+    """Returns a channel's place if it is valid: a path of every host, a host of its own, or every other host."""
     if not (text == "/" or re.fullmatch("/" + NAME, text) or re.fullmatch(HOST, text)):
-        raise Wrong(f"{text!r} is neither /PREFIX (a-z, 0-9, _ and -, at most 24) nor a HOST in small letters nor /")
+        raise Wrong(f"{text!r} is neither /PREFIX (a-z, 0-9, _ and -, at most 24 characters) nor a HOST in lower case nor /")
     if text in TAKEN:
-        raise Wrong(f"{text!r} is a path of the edge's own")
+        raise Wrong(f"{text!r} is one of the edge's own paths")
     return text
 
 
 def read_channels(path: str) -> dict[str, Channel]:
-    """The channels by name, each with its places and origins, in the order of the file."""
+    """Returns the channels by name, each with its places and origins, in the order of the file."""
     channels: dict[str, Channel] = {}
     seen: dict[str, str] = {}
     with open(path, encoding="utf-8", errors="replace") as file:
@@ -46,16 +46,16 @@ def read_channels(path: str) -> dict[str, Channel]:
                 continue
             try:
                 if len(words) != 3:
-                    raise Wrong("a line has three words: NAME WHERE[,WHERE..] ORIGIN[,ORIGIN]")
+                    raise Wrong("a line must have three words: NAME WHERE[,WHERE..] ORIGIN[,ORIGIN]")
                 name, places, origins = words[0], [where(one) for one in words[1].split(",")], [address(one) for one in words[2].split(",")]
                 if not re.fullmatch(NAME, name) or name in channels:
-                    raise Wrong(f"{name!r} is a second line's" if name in channels else f"{name!r} is no name: a-z, 0-9, _ and -, at most 24")
+                    raise Wrong(f"{name!r} already has a line" if name in channels else f"{name!r} isn't a valid name: a-z, 0-9, _ and -, at most 24 characters")
                 if len(origins) > 2 or len(set(origins)) != len(origins):
-                    raise Wrong("a channel has one origin or two different ones")
-                # a line that was copied, with something left to change
+                    raise Wrong("a channel must have one origin or two different ones")
+                # a copied line that wasn't changed completely
                 for one in places + origins:
                     if one in seen:
-                        raise Wrong(f"{one} is {seen[one]}'s")
+                        raise Wrong(f"{one} is already used by {seen[one]}")
                     seen[one] = name
             except Wrong as fault:
                 raise Wrong(f"{path}, line {number}: {fault}") from None
@@ -74,7 +74,7 @@ def write_whole(path: str, text: str, mode: int) -> None:
 
 
 def users_of(folder: str, name: str) -> list[str]:
-    """User names in a channel's password files."""
+    """Returns the user names in a channel's password files."""
     found = set()
     for door in DOORS:
         path = os.path.join(folder, door, name + ".htpasswd")
@@ -89,7 +89,7 @@ def map_of(key: str, value: str, default: str, lines: Iterable[str]) -> str:
 
 
 def places_of(channels: Mapping[str, Channel]) -> list[str]:
-    """The maps from a prefix and a host to a channel. Hosts may be longer than a hash's buckets, so they are looked up by patterns."""
+    """Returns the maps from a prefix and a host to a channel. Hosts may be longer than a hash's buckets, so they are patterns."""
     places = [(place, name) for name, (found, _) in channels.items() for place in found]
     others = next((name for place, name in places if place == "/"), '""')
     hosts = [(f'"~^{re.escape(place)}$"', name) for place, name in places if place[0] != "/"]
@@ -98,18 +98,18 @@ def places_of(channels: Mapping[str, Channel]) -> list[str]:
 
 
 def upstreams(name: str, origins: Sequence[str]) -> str:
-    """The origins that serve, as number 0, and each by its number; no channel name has a dot. The serving one is there twice, so that one lost packet is retried at the
-    same origin. With one origin there is nothing to fail over to, so it is always tried."""
+    """Returns a channel's upstreams: NAME.0 fails over between its origins, NAME.1 and NAME.2 are each of them. (No channel name has a dot.) NAME.0 has the first origin
+    twice, so that one lost packet is retried there. With one origin there is nothing to fail over to, so it is always tried."""
     servers = [f"server {origins[0]} max_fails=0;"] * 2 if len(origins) == 1 else [f"server {origins[0]} max_fails=5 fail_timeout=10s;"] * 2 + [f"server {origins[1]} max_fails=0 backup;"]
     blocks = [(f"hls_{name}.0", servers)] + [(f"hls_{name}.{number}", [f"server {one} max_fails=0;"]) for number, one in enumerate(origins, 1)]
     return "\n".join(f"upstream {block} {{\n    zone {block} 64k;\n    " + "\n    ".join(lines) + "\n}" for block, lines in blocks)
 
 
 def generated(channels: Mapping[str, Channel], users: Mapping[str, list[str]]) -> str:
-    """The text of generated.conf."""
+    """Returns the text of generated.conf."""
     stand_ins = [one for _, origins in channels.values() for one in origins[1:]]
     return "\n\n".join([
-        "# Written by hls_channel from `channels`, and written again by it: nothing is to be changed here.",
+        "# Generated from `channels` by hls_channel, which overwrites changes.",
         *places_of(channels),
         map_of('"$hls_channel $remote_user"', "$hls_known_user", '""', [f'"{name} {user}" {user}' for name in channels for user in users[name]]),
         map_of('"$hls_channel $hls_number"', "$hls_process", '""', [f'"{name} {n}" {name}.{n}' for name, (_, origins) in channels.items() for n in range(1, len(origins) + 1)]),
@@ -119,14 +119,14 @@ def generated(channels: Mapping[str, Channel], users: Mapping[str, list[str]]) -
 
 
 def locked() -> IO[str]:
-    """The file by which those who change the edge wait for each other: root's alone, since who may open it may hold it."""
+    """Locks the edge's files against other commands. Only root may open the lock file, since whoever can open it can hold the lock."""
     lock = open(os.open(LOCK, os.O_WRONLY | os.O_CREAT, 0o600), "w", encoding="utf-8")
     fcntl.flock(lock, fcntl.LOCK_EX)
     return lock
 
 
 def apply(reload: bool = True) -> None:
-    """Writes, tests and reloads, with the folder locked."""
+    """Writes generated.conf, has nginx test it, and reloads nginx. The caller holds the lock."""
     channels, path = read_channels(os.path.join(FOLDER, "channels")), os.path.join(FOLDER, "generated.conf")
     before = open(path, encoding="utf-8").read() if os.path.isfile(path) else None
     write_whole(path, generated(channels, {name: users_of(FOLDER, name) for name in channels}), 0o600)
@@ -136,6 +136,6 @@ def apply(reload: bool = True) -> None:
         os.rename(path, path + ".refused")
         if before is not None:
             write_whole(path, before, 0o600)
-        raise Failure(f"{fault}\nnginx refused it, and keeps running as before; what it refused is {path}.refused") from None
+        raise Failure(f"{fault}\nnginx rejected the configuration, and keeps the old one; the rejected file is {path}.refused") from None
     if reload:
         run("nginx", "-s", "reload")

@@ -1,4 +1,4 @@
-"""What ends a tool: a line for standard error and its exit status, a command that failed, or a signal."""
+"""How a tool ends early: by a failure with its line and exit status, by a failed command, or by a signal."""
 import signal
 import subprocess
 import sys
@@ -9,7 +9,7 @@ SIGNALS = (signal.SIGINT, signal.SIGTERM, signal.SIGHUP)
 
 
 class Failure(Exception):
-    """A reason to end, in one line, with the exit status."""
+    """A reason to end, as one line, with the exit status."""
 
     def __init__(self, text: object, status: int = 1) -> None:
         super().__init__(str(text))
@@ -28,14 +28,14 @@ def run(*words: str) -> str:
 
 
 def leave(number: int, _: FrameType | None) -> None:
-    """The first signal ends the tool; what comes after it doesn't keep it from cleaning up."""
+    """Ends the tool at the first signal. Later ones are ignored, so that it can clean up."""
     for one in SIGNALS:
         signal.signal(one, signal.SIG_IGN)
     sys.exit(128 + number)
 
 
 def run_tool(name: str, work: Callable[[], None]) -> None:
-    """Does a tool's work. Ends with its failure's line and status."""
+    """Does a tool's work. After a failure, prints its line and exits with its status."""
     for one in SIGNALS:
         signal.signal(one, leave)
     try:

@@ -1,6 +1,6 @@
-"""The client of an origin: requests over one connection, opened again if it broke, by the origin itself or through an edge.
+"""A client of an origin, directly or through an edge: requests over one connection, which is opened again if it breaks.
 
-A response is taken for no more than it is: it has a longest length and a longest time, and what no origin sends is a failure.
+Responses aren't trusted: their length and time are limited, and what no origin sends is a failure.
 """
 import base64
 import contextlib
@@ -20,18 +20,18 @@ from .channels import HOST, address_of_file, split_url
 from .failures import Failure
 
 TIMEOUT = 45.0                                  # seconds that an origin may be silent: it may plan a programme for 30
-PATIENCE = 5.0                                  # seconds after which an origin that can't be reached is given up
-BUSY = 60.0                                     # seconds for which a request that is put off (429, or 503 with Retry-After) is sent again
-PAUSE = 0.2                                     # seconds between two tries
+PATIENCE = 5.0                                  # seconds for which an unreachable origin is tried
+BUSY = 60.0                                     # seconds for which a deferred request (429, or 503 with Retry-After) is retried
+PAUSE = 0.2                                     # seconds between two attempts
 SLOWEST = 16 << 10                              # bytes a second of the slowest link
-LONG = 1 << 18                                  # bytes of a long text: it has no time for more on the slowest link
+LONG = 1 << 18                                  # bytes for which every response has time on the slowest link
 SHORT = 4096                                    # bytes of a line
 TEXT = 1 << 24                                  # bytes of a playlist or a certificate
 BROKEN = (OSError, http.client.HTTPException, ValueError)
 
 
 class Response(NamedTuple):
-    """A response that was read to its end."""
+    """A complete response."""
 
     status: int
     headers: http.client.HTTPMessage
@@ -39,7 +39,7 @@ class Response(NamedTuple):
 
 
 def printable(content: bytes) -> str:
-    """Returns what an origin sent as far as a terminal may show it."""
+    """Returns the beginning of what an origin sent, with only printable characters."""
     return re.sub(r"[^ -~]", ".", content[:200].decode("ascii", "replace").strip()) or "nothing"
 
 
@@ -57,16 +57,16 @@ def trust(authority: str | None) -> ssl.SSLContext:
     try:
         return ssl.create_default_context(cafile=authority)
     except OSError as fault:
-        raise Failure(f"--ca {authority}: {fault.strerror if fault.errno else 'it has no certificate (PEM)'}", 2) from fault
+        raise Failure(f"--ca {authority}: {fault.strerror if fault.errno else 'it has no PEM certificate'}", 2) from fault
 
 
 class Origin:
-    """An origin, by its own address or by a channel's URL at an edge. A user and a password are the URL's, or those of ~/.netrc."""
+    """An origin, by its own address or by a channel's URL at an edge. A user and a password are taken from the URL or from ~/.netrc."""
 
     def __init__(self, word: str, *, authority: str | None = None, agent: str = "hls_tools", timeout: float = TIMEOUT) -> None:
         url = split_url(url_of(word))
         if url is None:
-            raise Failure(f"{word} is no origin's address: write it as 10.0.0.1:8080, or as a channel's at an edge, https://edge.example.org/news", 2)
+            raise Failure(f"{word} isn't an origin's address: write 10.0.0.1:8080, or a channel's URL at an edge, https://edge.example.org/news", 2)
         self.prefix = url.path.rstrip("/")
         place = url.netloc.rpartition("@")[2]
         self.url = f"{url.scheme}://{place}{self.prefix}"
@@ -90,14 +90,14 @@ class Origin:
         return {"Authorization": "Basic " + base64.b64encode(pair.encode()).decode()}
 
     def ask(self, path: str, limit: int = SHORT, expected: int = 0) -> Response:
-        """Requests a path, and again while patience lasts if the connection breaks. The response has at most `limit` bytes, and the time
-        that the slowest link takes for those that are expected, or for a long text."""
+        """Requests a path, and retries for some seconds if the connection breaks. The response has at most `limit` bytes, and as much time
+        as the slowest link takes for `expected` bytes, or for LONG ones if that is more."""
         begun = time.monotonic()
         while True:
             try:
                 response = self._once(path, limit, self.timeout + max(expected, LONG) / SLOWEST)
             except ssl.SSLCertVerificationError as fault:
-                raise Failure(f"{self.url}: the edge's certificate isn't trusted ({fault.verify_message}): give --ca FILE with the authority that "
+                raise Failure(f"{self.url}: the edge's certificate isn't trusted ({fault.verify_message}): use --ca FILE with the authority that "
                               "signed it, or with the certificate itself if it is self-signed") from fault
             except BROKEN as fault:
                 if time.monotonic() - begun >= self.patience:
@@ -111,10 +111,10 @@ class Origin:
 
     @staticmethod
     def _put_off(response: Response) -> float | None:
-        """Returns the seconds after which the same request may succeed, or None if it is answered."""
+        """Returns the seconds after which to retry a deferred request, or None if the response is final."""
         if response.status == 503 and (found := re.fullmatch(r"[0-9]{1,3}", response.headers.get("Retry-After", ""))):
             return min(10.0, float(found[0]))
-        # an edge that limits requests, or that has lost its origin for a moment
+        # an edge that limits requests, or can't reach its origin at the moment
         return {429: 1.0, 502: PAUSE, 504: PAUSE}.get(response.status)
 
     def _once(self, path: str, limit: int, seconds: float) -> Response:
@@ -135,7 +135,7 @@ class Origin:
         except BROKEN:
             self.connection.close()
             if not late.is_alive():
-                raise Failure(f"{self.name} doesn't answer: {path} wasn't done in {seconds:.0f} s") from None
+                raise Failure(f"{self.name} doesn't answer: {path} took more than {seconds:.0f} s") from None
             raise
         finally:
             late.cancel()
@@ -146,7 +146,7 @@ class Origin:
             self.connection.sock.shutdown(socket.SHUT_RDWR)
 
     def text(self, path: str) -> str:
-        """Returns a text that has to be there."""
+        """Returns the text at a path. Failure if there is none."""
         return self.text_of(path, self.ask(path, TEXT))
 
     def text_of(self, path: str, response: Response) -> str:

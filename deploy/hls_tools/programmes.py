@@ -11,15 +11,15 @@ from .failures import Failure
 from .origins import TEXT, Origin, printable
 
 INIT_LIMIT = 1 << 20                            # bytes of the largest init section
-SEGMENT_LIMIT = 1 << 30                         # bytes of a segment that is held in memory to be checked
-# A segment and an init section as a programme's list names them: ../../../RUN/R/FILE.
+SEGMENT_LIMIT = 1 << 30                         # bytes of the largest segment, which is checked in memory
+# A segment and an init section in a programme's playlist: ../../../RUN/R/FILE.
 SEGMENT = re.compile(r"#EXTINF:(\d{1,4})\.(\d{6}),\n\.\./\.\./\.\./([A-Za-z0-9]{1,16})/(\d{1,2})/(\d{1,15})-(\d{1,15})\.m4s\n")
 INIT = re.compile(r'#EXT-X-MAP:URI="\.\./\.\./\.\./([A-Za-z0-9]{1,16})/(\d{1,2})/init\.mp4"\n')
 GONE, NO_CUT = "Gone", "NoCut"
 
 
 class Refused(Failure):
-    """The origin's refusal, by its name."""
+    """A refusal of the origin, by its name."""
 
     def __init__(self, name: str, text: str, status: int = 3) -> None:
         super().__init__(text, status)
@@ -38,25 +38,25 @@ class Wish(NamedTuple):
 
 
 def explain(name: str) -> str:
-    """Returns what the program says of a refusal, or the name alone."""
+    """Returns what `hls_origin explain` prints for a refusal, or its name."""
     with contextlib.suppress(OSError):
         return subprocess.run([PROGRAM, "explain", name], capture_output=True, text=True).stdout.strip() or name
     return name
 
 
 def programmes_of(word: str, authority: str | None = None, agent: str = "hls_tools") -> Origin:
-    """Returns the client for an origin, or for a channel at an edge, where programmes are viewers' addresses."""
+    """Returns the client for an origin, or for a channel at an edge, where programmes have viewers' URLs."""
     origin = Origin(word, authority=authority, agent=agent)
     if found := re.search(r"/origin/[12]$", origin.prefix):
-        raise Failure(f"{origin.url}: at an edge programmes are the channel's own: {origin.url.removesuffix(found[0])}", 2)
+        raise Failure(f"{origin.url}: at an edge use the channel's own URL for programmes: {origin.url.removesuffix(found[0])}", 2)
     return origin
 
 
 def request_certificate(origin: Origin, wish: Wish) -> str:
-    """Returns the text of a programme's certificate. Refused if the channel doesn't have the programme."""
+    """Returns the text of a programme's certificate. Raises Refused if the channel doesn't have the programme."""
     for word in (wish.begin, wish.end):
         if not re.fullmatch(r"[0-9TZ:.+-]{1,40}", word):
-            raise Refused("BadQuery", f"refused: {word!r} is no time: {explain('BadQuery')}")
+            raise Refused("BadQuery", f"refused: {word!r} isn't a time: {explain('BadQuery')}")
     path = wish.path("certificate.txt")
     response = origin.ask(path, TEXT)
     if response.status in (400, 404, 410) and (found := re.fullmatch(r"refused (\w{1,40})", printable(response.body))):
@@ -74,7 +74,7 @@ def refusal_of(origin: Origin, wish: Wish) -> str | None:
 
 
 def read_certificate(text: str) -> Certificate:
-    """Checks a certificate. Refused if it shows that there is no cut."""
+    """Checks a certificate and reads it. Raises Refused if it shows that there is no cut."""
     verdict = check_certificate(text)
     certificate = Certificate(text)
     if verdict[0] == "none":
@@ -83,7 +83,7 @@ def read_certificate(text: str) -> Certificate:
 
 
 class Segment(NamedTuple):
-    """A segment as a programme's list names it: its length in µs, the run, and its first and last byte in the channel's recording."""
+    """A segment in a programme's playlist: its length in µs, the run, and its first and last byte in the channel's recording."""
 
     duration_us: int
     run: str
@@ -92,11 +92,11 @@ class Segment(NamedTuple):
 
 
 def segments_of(playlist: str, number: int) -> list[Segment]:
-    """Reads the list of a rendition. ValueError if it isn't one of a programme, or has anything but segments that follow each other."""
+    """Reads a rendition's playlist. ValueError if it isn't a programme's, or has more than segments that follow each other."""
     named = list(SEGMENT.finditer(playlist))
     found = [Segment(int(one[1]) * 1_000_000 + int(one[2]), one[3], int(one[5]), int(one[6])) for one in named]
     if not playlist.startswith("#EXTM3U\n") or "#EXT-X-PLAYLIST-TYPE:VOD\n" not in playlist or not playlist.endswith("#EXT-X-ENDLIST\n"):
-        raise ValueError("it isn't whole")
+        raise ValueError("it is incomplete")
     if {one.groups()[2:4] for one in named} != set(inits := INIT.findall(playlist)) or len(inits) != 1 or inits[0][1] != str(number):
         raise ValueError("it names more than one run or rendition")
     if names_in(SEGMENT.sub("", INIT.sub("", playlist))):
@@ -112,7 +112,7 @@ def names_in(playlist: str) -> list[str]:
 
 
 def count_renditions(master: str) -> int:
-    """Returns the number of renditions of a master playlist whose playlists are 0.m3u8, 1.m3u8, .. without a hole."""
+    """Returns the number of renditions in a master playlist, which names 0.m3u8, 1.m3u8, .. without a gap."""
     names = set(names_in(master))
     if not names or names != {f"{number}.m3u8" for number in range(len(names))}:
         raise ValueError("it doesn't name 0.m3u8, 1.m3u8, ..")
@@ -120,32 +120,32 @@ def count_renditions(master: str) -> int:
 
 
 def fetch(origin: Origin, path: str, length: int | None = None) -> bytes:
-    """Loads a file of the channel: as many bytes as are given, or an init section."""
+    """Loads a file of the channel: of the given length, or an init section."""
     response = origin.ask(path, length or INIT_LIMIT, length or 0)
     if response.status == 410:
         raise Refused(GONE, "refused: " + explain(GONE))
     if response.status != 200 or len(response.body) != (length or len(response.body)):
-        raise Failure(f"{path} is {response.status} with {len(response.body)} bytes: {printable(response.body)[:80] if response.status != 200 else 'another length'}")
+        raise Failure(f"{path} is {response.status} with {len(response.body)} bytes: {printable(response.body)[:80] if response.status != 200 else 'wrong length'}")
     return response.body
 
 
 def load_rendition(origin: Origin, number: int, playlist: str, planned: list[tuple[int, int]], folder: str) -> str:
-    """Writes a rendition's file, its init section and its segments, and the list over it. `planned` are the certificate's segments.
-    Returns the run that it is of."""
+    """Writes a rendition's media file (its init section and segments) and its playlist. `planned` are the certificate's segments.
+    Returns the run of its paths."""
     segments = segments_of(playlist, number)
     if [one.duration_us for one in segments] != [length for _, length in planned]:
-        raise ValueError("it has other segments than the certificate plans")
+        raise ValueError("its segments aren't those of the certificate's plan")
     name, path = f"{number}.mp4", f"/hls/{segments[0].run}/{number}/"
     init = fetch(origin, path + "init.mp4")
     if init_length(init) != len(init):
-        raise Failure(f"the init section of rendition {number} isn't one")
+        raise Failure(f"the init section of rendition {number} is malformed")
     offset, ranges = len(init), []
     with open(os.path.join(folder, name), "xb") as file:
         file.write(init)
         for one, (count, _) in zip(segments, planned):
             content = fetch(origin, f"{path}{one.first}-{one.last}.m4s", one.last - one.first + 1)
             if count_units(content) != count:
-                raise Failure(f"{path}{one.first}-{one.last}.m4s isn't {count} whole units")
+                raise Failure(f"{path}{one.first}-{one.last}.m4s isn't {count} complete units")
             file.write(content)
             ranges.append(f"#EXT-X-BYTERANGE:{len(content)}@{offset}\n{name}\n")
             offset += len(content)
@@ -155,15 +155,15 @@ def load_rendition(origin: Origin, number: int, playlist: str, planned: list[tup
 
 
 def store(folder: str, name: str, text: str) -> str:
-    """Writes a file that isn't there yet. Returns its text."""
+    """Writes a new file. Returns its text."""
     with open(os.path.join(folder, name), "x", encoding="ascii") as file:
         file.write(text)
     return text
 
 
 def load_programme(origin: Origin, wish: Wish, folder: str) -> tuple[str, int]:
-    """Loads a programme into an empty folder: master.m3u8, a list and a file for each rendition, and the certificate. Returns a line about
-    it, and the time in µs at which its media begin."""
+    """Loads a programme into an empty folder: master.m3u8, a playlist and a file for each rendition, and the certificate. Returns a line
+    that describes it, and the time in µs at which its media begin."""
     certificate = read_certificate(store(folder, "certificate.txt", request_certificate(origin, wish)))
     try:
         count = count_renditions(store(folder, "master.m3u8", origin.text(wish.path("master.m3u8"))))
@@ -171,9 +171,9 @@ def load_programme(origin: Origin, wish: Wish, folder: str) -> tuple[str, int]:
             raise ValueError(f"it has {count} renditions, the certificate {len(certificate.places[0])}")
         runs = {load_rendition(origin, number, origin.text(wish.path(f"{number}.m3u8")), certificate.segments(number), folder) for number in range(count)}
     except ValueError as fault:
-        raise Failure(f"{origin.name}: a playlist of the programme isn't an origin's: {fault}") from None
+        raise Failure(f"{origin.name}: a playlist of the programme isn't valid: {fault}") from None
     if len(runs) > 1:
-        raise Failure("its renditions are of several runs: the origin was restarted meanwhile")
+        raise Failure("its renditions are from different runs: the origin was restarted meanwhile")
     lengths = [length for _, length in certificate.segments(0)]
     size = sum(os.path.getsize(os.path.join(folder, f"{number}.mp4")) for number in range(count))
     return f"{len(lengths)} segments, {sum(lengths) / 1e6:.6f} s, {count} renditions, {size} bytes, the certificate holds", certificate.begins

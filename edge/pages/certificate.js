@@ -1,6 +1,6 @@
-// Checks a certificate of a catch-up cut, straight from docs/CERTIFICATE.md: it knows neither the program that made the plan
-// nor the one that checks on the server. A page imports it, node too; as a worker's script it takes the text's bytes and gives
-// back the verdict with what there is to draw. Nothing here is to be changed for a site.
+// Checks the certificate of a catch-up cut, written from docs/CERTIFICATE.md alone: it shares no code with the program that makes the
+// plan or the checker on the server. Pages and node import it. As a worker's script it takes the text's bytes and returns the verdict
+// with the certificate to draw. Nothing here is to be changed for a site.
 "use strict";
 
 const NUMBER_LIMIT = 2 ** 53; // numbers are below it, so a double holds each of them, and each difference of two, exactly
@@ -17,7 +17,7 @@ export class Refusal extends Error {
     }
 }
 
-// A text's lines, one after the other.
+// The lines of a text, read in order.
 class Lines {
     constructor(bytes) {
         Object.assign(this, { bytes, number: 1, from: 0, to: bytes.indexOf(LF) });
@@ -48,7 +48,7 @@ class Lines {
         this.next();
     }
 
-    // Takes a line of a word and from `least` to `most` numbers: gives each of them to `each`, with its place in the line.
+    // Takes a line of a word and `least` to `most` numbers. Calls `each` with each number and its position in the line.
     takeNumbers(word, least, most, each) {
         if (!this.beginsWith(word)) this.refuse();
         let count = 0;
@@ -74,7 +74,7 @@ class Lines {
     }
 }
 
-// For each rendition a column of each field, by place.
+// Reads the table: for each rendition a column of each field, indexed by place.
 function readTable(lines, renditions, places) {
     const columns = Array.from({ length: renditions * FIELDS.length }, () => new Float64Array(places));
     for (let place = 0; place < places; place++) {
@@ -83,7 +83,7 @@ function readTable(lines, renditions, places) {
     return Array.from({ length: renditions }, (_, r) => Object.fromEntries(FIELDS.map((name, i) => [name, columns[r * FIELDS.length + i]])));
 }
 
-// The lines of a word, a place and perhaps a price, places rising, up to `end`.
+// Reads lines of a word, a place and perhaps a price, with ascending places, up to `end`.
 function readMarks(lines, word, width, places, each) {
     let last = -1;
     while (!lines.is("end")) {
@@ -97,7 +97,7 @@ function readMarks(lines, word, width, places, each) {
     }
 }
 
-/// The certificate that a text is. Throws `Form` with the number of the first line that isn't as it must be.
+/// Reads a certificate. Throws `Form` with the number of the first malformed line.
 export function read(bytes) {
     const lines = new Lines(bytes);
     const charged = lines.is("HLS-CUT-CERTIFICATE 2");
@@ -131,14 +131,14 @@ export function read(bytes) {
 /// The length of a segment from place p to place q in a rendition, in microseconds.
 export const lengthOf = (spots, p, q) => spots.prevEnd[q] - spots.start[p];
 
-// One column of all renditions, place after place.
+// One field of all renditions, place by place.
 function rowsOf(table, places, name) {
     const rows = new Float64Array(places * table.length);
     table.forEach((spots, r) => { for (let p = 0; p < places; p++) rows[p * table.length + r] = spots[name][p]; });
     return rows;
 }
 
-// A number for each place that is equal where the place's numbers are equal, in all renditions.
+// A number for each place; two places have the same number if their values are equal in all renditions.
 function namesOf(rows, count, known) {
     return Int32Array.from({ length: rows.length / count }, (_, p) => {
         const name = rows.subarray(p * count, (p + 1) * count).join();
@@ -147,7 +147,7 @@ function namesOf(rows, count, known) {
     });
 }
 
-// For each place the first one whose fragments are all greater: in a sorted table so are those of all later places.
+// For each place the first later one whose fragments are all greater: in a sorted table so are those of all places after it.
 function firstBehind(table, places) {
     const first = new Int32Array(places);
     for (const { fragment } of table) {
@@ -159,8 +159,8 @@ function firstBehind(table, places) {
     return first;
 }
 
-// Which steps of a sorted table are allowed, made ready to be asked for more than a hundred million: a certificate may be made to
-// cost most.
+// The allowed steps of a sorted table, prepared for more than a hundred million queries: a certificate may be made to cost the most
+// time.
 class Steps {
     constructor({ table, places, target }) {
         const known = new Map();
@@ -203,18 +203,18 @@ function checkPlan(certificate, steps) {
     if (cost !== cut || prices[places - 1] !== cut) throw new Refusal("PlanCost");
 }
 
-// Looks at every allowed step from a place with a price, by its least p and then its least q. What has no price costs more than all.
+// Checks every allowed step from a place with a price, in the order of p, then q. A place without a price has an infinite one.
 function checkSteps(certificate, steps, prices) {
     const { table: [{ start, prevEnd }], places, preferred, charge } = certificate;
     const { longest } = steps;
-    // No place from q on is nearer than nearest[q], so a row ends where that is out of reach: ends needn't rise.
+    // No place from q on ends before nearest[q], so a row stops where that is out of reach: ends needn't be ascending.
     const nearest = Float64Array.from(prevEnd);
     for (let q = places - 2; q >= 0; q--) nearest[q] = Math.min(nearest[q], nearest[q + 1]);
     for (let p = 0; p < places; p++) {
         const [price, from] = [prices[p] + charge, start[p]];
         if (price === NOT_PRICED) continue;
         for (let q = p + 1; q < places && nearest[q] - from <= longest; q++) {
-            // prices are compared first: most steps break nothing, and needn't be asked whether they are allowed
+            // prices are compared first: most steps break no rule, so it doesn't matter whether they are allowed
             if (prices[q] > price + Math.abs(prevEnd[q] - from - preferred) && steps.allows(p, q)) throw new Refusal("PriceStep", p, q);
         }
     }
@@ -225,7 +225,7 @@ function checkPrices(certificate, steps) {
     checkSteps(certificate, steps, certificate.prices);
 }
 
-// The closed set: its places cost nothing, so an allowed step that leaves it leads to what costs more.
+// The closed set: its places have the price 0 and others an infinite one, so an allowed step that leaves the set breaks `PriceStep`.
 function checkClosed(certificate, steps) {
     const { closed, places } = certificate;
     if (!closed[0]) throw new Refusal("PriceStart");
@@ -233,7 +233,7 @@ function checkClosed(certificate, steps) {
     if (closed[places - 1]) throw new Refusal("EndReached");
 }
 
-/// Throws the first rule that a certificate breaks; else says what it proves: `cut N` or `none`.
+/// Throws the first rule that a certificate breaks. Returns what it proves: `cut N` or `none`.
 export function check(certificate) {
     checkTable(certificate);
     const steps = new Steps(certificate);
@@ -246,7 +246,7 @@ export function check(certificate) {
     return `cut ${certificate.cut}`;
 }
 
-/// What `hls_origin check` prints of a text, and the certificate where there is one.
+/// What `hls_origin check` prints for a text, and the certificate if the text is one.
 export function answer(bytes) {
     let certificate = null;
     try {
@@ -254,7 +254,7 @@ export function answer(bytes) {
         return { said: check(certificate), good: true, certificate };
     } catch (fault) {
         if (!(fault instanceof Refusal)) throw fault;
-        // nobody draws a refused plan, and it may have millions of places
+        // a refused plan isn't drawn, and may have millions of places
         if (certificate) certificate.plan = [];
         return { said: `refused ${fault.message}`, good: false, certificate };
     }

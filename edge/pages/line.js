@@ -1,21 +1,21 @@
-// The viewers' page's line of time: where on it each segment of a channel or a recording lies, however its lists come. Segments of
-// all renditions have one numbering, so the first rendition's list speaks for all. Nothing here is to be changed for a site.
+// The timeline of the viewers' page: the position of each segment of a channel or a recording, whichever playlists arrive. Segments of
+// all renditions share one numbering, so the first rendition's playlist is enough. Nothing here is to be changed for a site.
 "use strict";
 
 import { loadText, readMedia } from "./playlist.js";
 
-/// RFC 8216 6.3.3: a player begins no nearer to the end of a live list than so many targets.
+/// RFC 8216 6.3.3: a player starts at least this many target durations before the end of a live playlist.
 const TARGETS_FROM_LIVE = 3;
-const KEPT_ENTRIES = 300; // of the line before what the list still has
-const FAR = 100000; // segments: a list that far ahead is of another channel
+const KEPT_ENTRIES = 300; // entries of the line that are kept before the playlist's first one
+const FAR = 100000; // segments: a playlist that is this far ahead belongs to another channel
 
-/// A media list, loaded anew when it is asked for and no fresher than it may be.
+/// A media playlist, loaded again when it is requested and too old.
 export class Source {
     constructor(url) {
         Object.assign(this, { url, list: null, loadedAt: -Infinity, loading: null });
     }
 
-    // The list, not older than the given number of seconds.
+    // The playlist, not older than the given number of seconds.
     async fresh(age) {
         if (this.list && (this.list.ended || performance.now() - this.loadedAt < age * 1000)) return this.list;
         this.loading ??= loadText(this.url, { cache: "no-cache" }).then((text) => {
@@ -27,11 +27,11 @@ export class Source {
     }
 }
 
-// Whether an entry was made of a segment: by the date where there is one (an edge may name it anew), else by its bytes.
+// Whether an entry was made from a segment: by its date if it has one (its address may change at an edge), else by its bytes.
 const isSame = (segment, entry) => segment.date !== null && entry.date !== null ? segment.date === entry.date
     : segment.url === entry.url && String(segment.range) === String(entry.range);
 
-// What is played of a list that came in another's place: what wasn't seen, from where one begins.
+// The segments to play of a playlist that replaces another one: those that weren't seen, from where a player starts.
 function startOf(list, last) {
     const seen = last.date === null ? -Infinity : last.date + 1000 * last.length - 100;
     const unseen = list.segments.filter(({ date }) => date === null || date >= seen);
@@ -41,7 +41,7 @@ function startOf(list, last) {
     return list.ended ? fresh : fresh.slice(from);
 }
 
-/// The line itself. A run is a stretch without a break: within one, media times and the line differ by one number, its shift.
+/// The timeline. A run is a part without a break: in it media times and the line differ by a constant, the run's shift.
 export class Line {
     constructor() {
         Object.assign(this, { entries: [], run: 0, listed: 0, begun: 0, doubted: false, target: 6, ended: false });
@@ -50,16 +50,16 @@ export class Line {
     get last() { return this.entries[this.entries.length - 1]; }
     get end() { return this.last ? this.last.at + this.last.length : 0; }
     get start() { return this.entries[this.listed]?.at ?? 0; }
-    // Where a viewer who wants to be live is.
+    // The position of a live viewer.
     get live() { return Math.max(this.start, this.end - TARGETS_FROM_LIVE * this.target); }
 
-    // The entry of a number in the list that is followed now.
+    // The entry of a sequence number in the current playlist.
     entryOf(sequence) {
         const first = this.entries[this.begun];
         return first && sequence >= first.sequence ? this.entries[this.begun + sequence - first.sequence] : undefined;
     }
 
-    // The place in `entries` of what is seen at a time, or of the end.
+    // The index in `entries` of the segment at a time, or of the end.
     indexAt(time) {
         let [low, high] = [0, this.entries.length];
         while (low < high) {
@@ -75,7 +75,7 @@ export class Line {
         return entry?.date == null ? null : entry.date + 1000 * (time - entry.at);
     }
 
-    // Takes a later list; what it was: "" as expected, "anew" if the channel was restarted, "lost" if segments slid away unseen.
+    // Takes a later playlist. Returns "" normally, "anew" if the channel was restarted, "lost" if segments were removed before they were seen.
     take(list) {
         const { segments } = list;
         Object.assign(this, { target: list.target, ended: list.ended });
@@ -93,7 +93,7 @@ export class Line {
         }
         const ahead = segments[0].sequence - this.last.sequence;
         const found = !common && ahead > 0 && ahead < FAR ? "lost" : "anew";
-        // one list that is out of its time may be an edge's old one
+        // a single older playlist may be a cached one from an edge
         if (ahead <= 0 && !this.doubted) {
             this.doubted = true;
             return "";
@@ -111,7 +111,7 @@ export class Line {
         this.entries.push({ sequence, run: this.run, at: this.end, length: length / 1000000, date, url, range, gone: false });
     }
 
-    // What precedes it isn't listed any more, so it can't be loaded.
+    // Marks the entries before one as gone: they aren't listed any more, so they can't be loaded.
     keepFrom(index) {
         for (let i = Math.min(this.listed, index); i < index; i++) this.entries[i].gone = true;
         this.listed = index;

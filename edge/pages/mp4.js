@@ -1,13 +1,13 @@
-// What the pages read of fragmented MP4 (ISO/IEC 14496-12; docs/FORMATS.md): of an init section its tracks and how a browser
-// names their codecs, of a unit when it begins, how long it is and whether it begins with a sync sample. Bytes are a stranger's:
-// a box that doesn't fit in its parent is skipped with all that follows it. Nothing here is to be changed for a site.
+// What the pages read of fragmented MP4 (ISO/IEC 14496-12; docs/FORMATS.md): of an init section its tracks and their codecs as browsers
+// name them; of a unit when it begins, how long it is and whether it begins with a sync sample. The bytes aren't trusted: a box that
+// doesn't fit in its parent is skipped with all that follows it. Nothing here is to be changed for a site.
 "use strict";
 
 const viewOf = (bytes) => new DataView(bytes.buffer, bytes.byteOffset, bytes.byteLength);
 const nameAt = (view, at) => String.fromCharCode(view.getUint8(at), view.getUint8(at + 1), view.getUint8(at + 2), view.getUint8(at + 3));
 const hex = (number, width) => number.toString(16).padStart(width, "0");
 
-// The boxes between two places, as far as they are whole or, with `cut`, begun.
+// The boxes between two positions, up to the first incomplete one, which is included with `cut`.
 export function* boxes(view, from, to, cut = false) {
     while (from + 8 <= to) {
         let [size, header] = [view.getUint32(from), 8];
@@ -37,7 +37,7 @@ function hevc(view, name, at) {
         ...constraints.map((byte) => hex(byte, 1).toUpperCase())].join(".");
 }
 
-// The object types of esds (ISO/IEC 14496-1 7.2.6): descriptors are a tag, a length of seven bits a byte, and content.
+// The object types of esds (ISO/IEC 14496-1 7.2.6): a descriptor is a tag, a length with seven bits per byte, and content.
 function mpegAudio(view, box) {
     let at = box.content + 4;
     const descend = () => {
@@ -89,7 +89,7 @@ function trackOf(view, trak, defaults) {
     return { id, scale, kind, codec: codecOf(view, entry), size, defaults: defaults[id] };
 }
 
-/// The tracks of an init section, the timing track first, and its type for a source buffer; null where it isn't one.
+/// The tracks of an init section, the timing track first, and its type for a source buffer; null if it isn't an init section.
 export function readInit(bytes) {
     const view = viewOf(bytes);
     try {
@@ -112,7 +112,7 @@ export function readInit(bytes) {
     }
 }
 
-// A track fragment's runs: how long they last, and the flags of the first sample.
+// The runs of a track fragment: their duration, and the flags of the first sample.
 function runsOf(view, traf, head, defaults) {
     const flags = view.getUint32(head.content) & 0xffffff;
     let at = head.content + 8 + (flags & 1 ? 8 : 0) + (flags & 2 ? 4 : 0);
@@ -126,7 +126,7 @@ function runsOf(view, traf, head, defaults) {
         const firstFlags = has & 4 ? view.getUint32(sample) : null;
         if (has & 4) sample += 4;
         const width = [0x100, 0x200, 0x400, 0x800].filter((bit) => has & bit).length * 4;
-        if (sample + count * width > run.to) throw new RangeError("a run goes on behind its box");
+        if (sample + count * width > run.to) throw new RangeError("a run continues past its box");
         if (count > 0 && first === null) {
             const before = (has & 0x100 ? 4 : 0) + (has & 0x200 ? 4 : 0);
             first = firstFlags ?? (has & 0x400 ? view.getUint32(sample + before) : usual.flags ?? 0);
@@ -137,8 +137,8 @@ function runsOf(view, traf, head, defaults) {
     return { duration, first };
 }
 
-/// The facts of a unit by its timing track, in microseconds, from the bytes at its beginning: these must hold its moof and the
-/// header of its mdat. Null where they don't, and where it is no unit.
+/// A unit's times by its timing track, in microseconds, from its first bytes, which must include its moof and the header of its mdat.
+/// Null if they don't, or if it isn't a unit.
 export function readUnit(bytes, init) {
     const view = viewOf(bytes);
     const [{ id, scale, defaults }] = init.tracks;

@@ -1,6 +1,6 @@
-// The operators' page: a picture of the channel over what is kept, catch-up recordings cut from it, and their certificates, checked
-// in the browser. It asks the origin's own routes (docs/HTTP.md) below origin/1/ beside the page, which an edge lets operators alone
-// reach; ?origin=2 asks the second one's. Nothing here is to be changed for a site.
+// The operators' page: a timeline of what the channel keeps, catch-up recordings cut from it, and their certificates, checked in the
+// browser. It requests the origin's own routes (docs/HTTP.md) below origin/1/ beside the page, which only operators can reach at an
+// edge; ?origin=2 requests those of the second origin. Nothing here is to be changed for a site.
 "use strict";
 
 import { segmentsOf, checkAside, drawPrices, wordsOf, CERTIFICATE_LIMIT } from "./prices.js";
@@ -12,14 +12,14 @@ const LOG_LIMIT = 4194304;
 const JOB_LIMIT = 64;
 const SURVEY_EVERY = 60; // seconds
 const LOOK_EVERY = 2;
-const LATE = 4; // seconds that a rendition may be late before that is shown
+const LATE = 4; // seconds of lag above which a rendition is shown as late
 
 const $ = (id) => document.getElementById(id);
 const origin = new URLSearchParams(location.search).get("origin") ?? "1";
 const channel = new Channel(addressOf(`origin/${/^[12]$/.test(origin) ? origin : "1"}/`, location.href));
 const lanes = new Lanes($("lanes"), channel);
 let shown = null; // the certificate that is drawn
-let shows = 0; // certificates that were to be checked
+let shows = 0; // how many certificates were chosen
 let jobsShown = null;
 
 const sleep = (seconds) => new Promise((done) => { setTimeout(done, 1000 * seconds); });
@@ -27,14 +27,14 @@ const say = (words) => { if ($("words").textContent !== words) $("words").textCo
 const megabytes = (bytes) => bytes < 1e9 ? `${(bytes / 1e6).toFixed(bytes < 1e7 ? 1 : 0)} MB` : `${(bytes / 1e9).toFixed(2)} GB`;
 const many = (number) => number.toLocaleString("en-US");
 
-// A time of the channel's clock: of the day where there is an epoch, else in seconds.
+// A time of the channel's clock as text: a time of day if there is an epoch, else seconds.
 function clockOf(time) {
     if (channel.epoch === null) return `${(time / 1000000).toFixed(0)} s`;
     const date = new Date(channel.epoch + time / 1000);
     return Number.isNaN(date.getTime()) ? "" : date.toLocaleTimeString("en-GB");
 }
 
-// The values of the form's fields, with the viewer's day and offset; and back. Plain numbers are seconds of the channel's clock.
+// A time as a value of the form's fields, in the browser's time zone; and back. Plain numbers are seconds of the channel's clock.
 function spell(time) {
     if (channel.epoch === null) return (time / 1000000).toFixed(3);
     const date = new Date(channel.epoch + time / 1000);
@@ -45,7 +45,7 @@ function spell(time) {
 function timeOf(text) {
     if (/^\s*\d{1,10}(\.\d{1,6})?\s*$/.test(text)) return Math.round(Number(text) * 1000000);
     const found = Date.parse(text.trim().replace(" ", "T"));
-    if (Number.isNaN(found) || channel.epoch === null) throw new Error("A time is written as 2024-01-01 20:00:00, or in seconds of the channel's clock.");
+    if (Number.isNaN(found) || channel.epoch === null) throw new Error("Enter a time as 2024-01-01 20:00:00, or in seconds of the channel's clock.");
     return Math.round((found - channel.epoch) * 1000);
 }
 
@@ -58,21 +58,21 @@ const make = (name, properties = {}, ...children) => {
 function paintFigures() {
     const { status, pace, left, renditions, table } = channel;
     $("log").textContent = left === null ? "-" : many(LOG_LIMIT - left);
-    // a channel with a journal begins a new log long before
+    // a channel with a journal begins a new log long before this one is half full
     const days = pace > 0 && left !== null && left < LOG_LIMIT / 2 ? left / pace / 86400 : null;
     $("logMore").textContent = `of ${many(LOG_LIMIT)} entries${days === null ? "" : `; full in ${days < 2 ? `${(24 * days).toFixed(0)} hours` : `${days.toFixed(0)} days`}`}`;
     $("memory").textContent = renditions.some(({ kept }) => kept !== null) ? megabytes(renditions.reduce((sum, { kept }) => sum + kept, 0)) : "-";
-    $("memoryMore").textContent = `of ${megabytes(renditions.reduce((sum, { total }) => sum + total, 0))} that came`;
+    $("memoryMore").textContent = `of ${megabytes(renditions.reduce((sum, { total }) => sum + total, 0))} received`;
     $("places").textContent = many(status.places ?? 0);
     $("placesMore").textContent = table ? `${many(table.places)} of them kept` : "";
     $("segments").textContent = many(status.segments ?? 0);
-    $("segmentsMore").textContent = `${many(status.removed ?? 0)} slid away`;
+    $("segmentsMore").textContent = `${many(status.removed ?? 0)} removed`;
     $("jobs").textContent = `${status.jobs ?? 0} of ${JOB_LIMIT}`;
     $("jobsMore").textContent = status.jobs > JOB_LIMIT / 2 ? "delete those that aren't needed" : "";
     $("clock").textContent = new Date().toLocaleTimeString("en-GB");
 }
 
-// What the table says of a rendition: how far it is from the newest end of all, and since when nothing arrived.
+// The table's cells for a rendition: among them its lag from the newest end of all, and the time since anything arrived.
 function cellsOf({ number, kind, name, codec, newest, gaps, kept, units, bandwidth }, behind, silent) {
     const length = units.length > 1 ? (newest.to - units[0].from) / 1000000 : 0;
     const rate = length > 0 ? units.reduce((sum, unit) => sum + unit.bytes, 0) * 8 / length : null;
@@ -82,7 +82,7 @@ function cellsOf({ number, kind, name, codec, newest, gaps, kept, units, bandwid
         codec,
         kept === null ? "" : megabytes(kept),
         newest ? clockOf(newest.to) : "",
-        behind === null ? "" : behind < 0.05 ? "first" : `${behind.toFixed(1)} s`,
+        behind === null ? "" : behind < 0.05 ? "none" : `${behind.toFixed(1)} s`,
         silent === null ? "" : `${silent.toFixed(0)} s ago`,
         gaps,
         rate === null ? "" : `${(rate / 1e6).toFixed(2)} Mbit/s${told}`,
@@ -100,20 +100,20 @@ function paintRenditions() {
     $("renditions").replaceChildren(...rows);
     const late = channel.renditions.filter((_, i) => rows[i].className === "late").map(({ number }) => number);
     const silence = Math.min(...channel.renditions.map(({ cameAt }) => cameAt === null ? 0 : (performance.now() - cameAt) / 1000));
-    if (late.length === rows.length && silence > 2 * channel.target) say(`Nothing has come for ${silence.toFixed(0)} s: the encoders are silent, or this page is asleep.`);
-    else if (late.length > 0) say(`Rendition ${late.join(", ")} is late: no place, and so no segment, can be made without it.`);
+    if (late.length === rows.length && silence > 2 * channel.target) say(`Nothing has arrived for ${silence.toFixed(0)} s: the encoders have stopped, or the browser suspended this page.`);
+    else if (late.length > 0) say(`Rendition ${late.join(", ")} is late: there is no new segment without it.`);
     else if (channel.list?.ended) say("The channel has ended.");
-    else say("All renditions go on.");
+    else say("All renditions are arriving.");
 }
 
-// How far the newest unit is from this machine's clock, where the channel's counts the time of day.
+// How far the newest unit is from this machine's clock, if the channel has dates within a day of it.
 function behindClock() {
     const behind = channel.epoch === null ? Infinity : (Date.now() - channel.epoch - channel.end / 1000) / 1000;
     if (Math.abs(behind) > 86400) return "";
     return `The newest unit ends at ${clockOf(channel.end)}, ${Math.abs(behind).toFixed(0)} s ${behind < 0 ? "ahead of" : "behind"} this machine's clock.`;
 }
 
-// Keeps the end of what came in sight for as long as nobody looks elsewhere.
+// Shows the newest media at a zoom level, and follows them until another range is chosen.
 function setSpan(width) {
     const end = channel.end + 2000000;
     lanes.shownWidth = width;
@@ -133,7 +133,7 @@ function paint() {
     $("lanes").setAttribute("aria-label", `The channel from ${clockOf(channel.start)} to ${clockOf(channel.end)}: ${counts}`);
 }
 
-// The picture: dragging chooses, the wheel and the keys go nearer and along.
+// The timeline: dragging selects a range; the wheel and keys zoom and move.
 function listenToPicture() {
     const canvas = $("lanes");
     let begun = null;
@@ -150,7 +150,7 @@ function listenToPicture() {
         showAddress();
         lanes.draw(clockOf);
     });
-    // a finger that scrolls the page gives up what it began
+    // a finger that scrolls the page ends the selection
     for (const name of ["pointerup", "pointercancel"]) canvas.addEventListener(name, () => { begun = null; });
     canvas.addEventListener("wheel", (event) => {
         event.preventDefault();
@@ -178,7 +178,7 @@ function zoom(by, around = (lanes.span[0] + lanes.span[1]) / 2) {
     paint();
 }
 
-// Looks elsewhere, no farther beside what is kept than that is long.
+// Shows another range, no farther from what is kept than that is long.
 function look([from, to]) {
     const [start, end] = [channel.start, channel.end + 2000000];
     const room = end - start + 60000000;
@@ -188,7 +188,7 @@ function look([from, to]) {
     lanes.span = [begins, begins + width];
 }
 
-// The fields that were typed in are shown on the picture.
+// Shows the times that were entered on the timeline.
 function showTyped() {
     try {
         lanes.chosen = [timeOf($("from").value), timeOf($("to").value)];
@@ -199,7 +199,7 @@ function showTyped() {
     paint();
 }
 
-// Where viewers get the chosen programme, with the channel's own preferred length.
+// Shows the viewers' address of the chosen programme, which has the channel's own preferred length.
 function showAddress() {
     const list = lanes.chosen && `hls/programme/${lanes.chosen.join("/")}/master.m3u8`;
     $("address").textContent = list ?? "";
@@ -221,7 +221,7 @@ async function cut(event) {
         const charge = Math.round($("charge").value * 1000000);
         const job = await channel.cut(charge > 0 ? { ...wishes, charge } : wishes);
         channel.wished.set(job, `${clockOf(wishes.from)} to ${clockOf(wishes.to)}`);
-        $("verdict").textContent = `Job ${job} is planned ..`;
+        $("verdict").textContent = `Planning job ${job} ..`;
         const state = await channel.finished(job);
         await showJobs();
         if (/^(cut|none)/.test(state)) await showCertificate(job);
@@ -233,21 +233,21 @@ async function cut(event) {
 
 const help = {
     BeforeRecording: "The start is before what is kept: choose a later one.",
-    NotYet: "The end hasn't come yet: choose an earlier one, or wait.",
-    AfterRecording: "The end is behind the channel's end.",
+    NotYet: "The end isn't recorded yet: choose an earlier one, or wait.",
+    AfterRecording: "The end is after the channel's end.",
     BadRange: "The start isn't before the end.",
     BadPreferred: "The preferred length is longer than the target.",
-    ProgrammeTooLong: "It has more places than one table holds: choose a shorter programme.",
+    ProgrammeTooLong: "It has too many places: choose a shorter programme.",
 };
 
 // Checks a certificate and draws it.
 async function show(bytes, name) {
-    $("verdict").textContent = `${name} is checked ..`;
+    $("verdict").textContent = `Checking ${name} ..`;
     const begun = performance.now();
     const turn = ++shows;
     const answer = await checkAside(bytes);
     const { certificate, good } = answer;
-    // another one was chosen while this one was checked
+    // another certificate was chosen while this one was checked
     if (turn !== shows) return answer;
     $("verdict").textContent = `${name}: ${wordsOf(answer)} (${((performance.now() - begun) / 1000).toFixed(2)} s)`;
     $("verdict").className = good ? "good" : "bad";
@@ -257,7 +257,7 @@ async function show(bytes, name) {
     return answer;
 }
 
-// A programme on the picture, which moves there where it isn't in sight.
+// Selects a programme on the timeline, and shows it if it is out of view.
 function bring(from, to) {
     lanes.chosen = [from, to];
     if (from >= lanes.span[0] && to <= lanes.span[1]) return;
@@ -305,23 +305,23 @@ async function showJobs() {
     jobsShown = channel.status.jobs;
     $("jobRows").replaceChildren(...jobs.map(rowOf));
     const more = jobsShown - jobs.length;
-    const words = jobsShown === 0 ? "No job stands." : more > 0 ? `Jobs whose numbers aren't known here: ${more}.` : "";
+    const words = jobsShown === 0 ? "There are no jobs." : more > 0 ? `Jobs with numbers that this page doesn't know: ${more}.` : "";
     if (words) $("jobRows").append(make("tr", {}, make("td", { colSpan: 5, className: "pale", textContent: words })));
 }
 
 async function remove(number) {
-    if (!confirm(`Delete job ${number}? Whoever plays it loses it.`)) return;
+    if (!confirm(`Delete job ${number}? Anyone who is playing it loses it.`)) return;
     lanes.plan = null;
     await channel.remove(number).then(showJobs).catch(sayFault);
 }
 
 function sayFault(fault) {
-    say(fault.status === 404 ? "The channel hasn't begun: no segment was made yet." : fault instanceof ListFault ? fault.message
+    say(fault.status === 404 ? "The channel hasn't begun: there is no segment yet." : fault instanceof ListFault ? fault.message
         : fault instanceof Refused ? `The origin answers: ${fault.message}.`
-        : fault.status ? `The origin answers ${fault.status}.` : "The origin can't be reached. It is asked again and again.");
+        : fault.status ? `The origin answers ${fault.status}.` : "The origin can't be reached. Trying again.");
 }
 
-// Looks again and again, and says what is wrong.
+// Repeats some work, and shows what goes wrong.
 async function repeat(every, work) {
     for (;;) {
         await work().catch(sayFault);
@@ -337,13 +337,13 @@ function main() {
     $("form").addEventListener("submit", cut);
     $("file").addEventListener("change", async ({ target: { files: [file] } }) => {
         if (file && file.size <= CERTIFICATE_LIMIT) await show(new Uint8Array(await file.arrayBuffer()), file.name).catch(sayFault);
-        else if (file) $("verdict").textContent = "That file is longer than any certificate.";
+        else if (file) $("verdict").textContent = "That file is too large for a certificate.";
     });
     window.addEventListener("resize", () => { if (shown) drawPrices($("prices"), shown); });
     repeat(LOOK_EVERY, async () => {
         await channel.lookAtStatus();
         await channel.lookAtLists();
-        // somebody else may have asked for a job
+        // another client may have requested or deleted a job
         if (channel.status.jobs !== jobsShown) await showJobs();
         paint();
     });
@@ -352,8 +352,8 @@ function main() {
         await channel.survey();
         if (channel.status.jobs > 0) await showJobs();
         const zone = Intl.DateTimeFormat().resolvedOptions().timeZone;
-        const clock = channel.epoch === null ? "In seconds of the channel's clock: serve has no --epoch." : `In this browser's time, ${zone}.`;
-        $("timeHelp").textContent = `${clock} What is kept begins at ${clockOf(channel.start)}.`;
+        const clock = channel.epoch === null ? "In seconds of the channel's clock: serve has no --epoch." : `In this browser's time zone, ${zone}.`;
+        $("timeHelp").textContent = `${clock} The channel keeps media from ${clockOf(channel.start)} on.`;
         $("preferred").max = channel.target;
         showWishes();
         paint();

@@ -1,5 +1,5 @@
-// What the operators' page knows of a channel, by the origin's own routes and nothing else (docs/HTTP.md): its state, its lists,
-// the first bytes of each unit, its metrics, and the table of places in the certificate of all that is kept, by its address. Times are
+// What the operators' page knows of a channel, from the origin's own routes alone (docs/HTTP.md): its status, its playlists, the first
+// bytes of each unit, its metrics, and the table of places in the certificate of a programme of all that is kept. Times are
 // microseconds of the channel's clock. Nothing here is to be changed for a site.
 "use strict";
 
@@ -7,15 +7,15 @@ import { read } from "./certificate.js";
 import { readInit, readUnit } from "./mp4.js";
 import { ReplyFault, isMaster, readMaster, readMedia, wholeOf } from "./playlist.js";
 
-const HEAD = 8192; // bytes that hold the boxes before a large unit's samples; small units are read many at a time
+const HEAD = 8192; // bytes that include the boxes before a large unit's samples; of small units many are read at once
 const MANY = 65536;
 const KEPT_UNITS = 6000;
-const FIRST_SEGMENTS = 12; // of the live list, whose units are read when the page opens
+const FIRST_SEGMENTS = 12; // segments of the live playlist whose units are read when the page opens
 const PROBES = 96;
-const SEARCHES = 5; // for where what is kept begins
-const SILENCE = 15000; // milliseconds after which a request is given up
-const EVERY = 70; // milliseconds between two requests, since an edge lets operators ask so often,
-const AT_ONCE = 10; // and as many beyond that
+const SEARCHES = 5; // attempts to find the first unit that is kept
+const SILENCE = 15000; // milliseconds after which a request is aborted
+const EVERY = 70; // milliseconds between two requests: an edge limits an operator's rate
+const AT_ONCE = 10; // requests that may exceed that rate
 
 // Each request waits for its turn.
 let due = 0;
@@ -39,7 +39,7 @@ async function textOf(path, limit = 16777216) {
     throw new ReplyFault(reply.status);
 }
 
-// Asks for a range of a recording: its bytes with the recording's length, or what came instead.
+// Requests a range of a recording. Returns its bytes, none if it is past the end, and the recording's length.
 async function ask(url, first, last) {
     const reply = await asked(url, { headers: { Range: `bytes=${first}-${last}` } });
     const total = Number(/\/(\d+)$/.exec(reply.headers.get("Content-Range") ?? "")?.[1] ?? NaN);
@@ -49,7 +49,7 @@ async function ask(url, first, last) {
     return { bytes: new Uint8Array(0), total };
 }
 
-// Where the first moof of some bytes begins, else -1: its name follows its size, and its first box is always a mfhd of 16 bytes.
+// The position of the first moof in some bytes, or -1: its name follows its size, and its first box is always a mfhd of 16 bytes.
 const MOOF = [..."moof\0\0\0\x10mfhd"].map((letter) => letter.charCodeAt(0));
 function placeOfMoof(bytes) {
     for (let at = bytes.indexOf(MOOF[0], 4); at >= 0; at = bytes.indexOf(MOOF[0], at + 1)) {
@@ -58,7 +58,7 @@ function placeOfMoof(bytes) {
     return -1;
 }
 
-// One rendition: what is kept of it, and its newest units one after the other.
+// One rendition: what is kept of it, and its newest units in order.
 class Rendition {
     constructor(base, number, said) {
         Object.assign(this, { base, number, ...said, url: `${base}media/${number}.mp4` });
@@ -69,7 +69,7 @@ class Rendition {
     get gaps() { return this.units.filter((unit) => unit.gap).length; }
     get codec() { return this.init?.tracks.map((track) => track.codec).join(", ") ?? ""; }
 
-    // The live list gives the init section's length and where its segments begin.
+    // Reads the init section, whose length is in the live playlist, as are the positions of segments.
     async look(list) {
         if (this.init || list.segments.length === 0) return;
         const { map } = list.segments[0];
@@ -78,7 +78,7 @@ class Rendition {
         [this.next] = list.segments.slice(-FIRST_SEGMENTS)[0].range;
     }
 
-    // Reads the heads of the units that have come.
+    // Reads the heads of the units that have arrived.
     async follow() {
         if (!this.init) return;
         for (let reads = 0; reads < PROBES; reads++) {
@@ -113,8 +113,8 @@ class Rendition {
         }
     }
 
-    // When the first unit that is kept begins, or one soon after it; null where none is found. What is kept begins later and later
-    // while one looks.
+    // The start of the first unit that is kept, or of one soon after it; null if none is found. Units are trimmed during the search, so
+    // it is repeated.
     async firstKept() {
         for (let searches = 0; searches < SEARCHES; searches++) {
             this.floor = await this.findFloor();
@@ -127,8 +127,8 @@ class Rendition {
         return null;
     }
 
-    // A place not far behind where what is kept begins: first in growing steps, then by halves between what is gone (410) and what
-    // is there.
+    // A position shortly after the first byte that is kept: found in growing steps, then by bisection between what is gone (410) and
+    // what isn't.
     async findFloor() {
         let low = this.floor ?? this.initLength;
         if (await this.isThere(low)) return low;
@@ -145,7 +145,7 @@ class Rendition {
         return high;
     }
 
-    // When the first unit begins whose moof follows a place of the recording.
+    // The start of the first unit whose moof follows a position in the recording.
     async firstFrom(place) {
         for (let reads = 0; reads < PROBES; reads++) {
             const { bytes } = await ask(this.url, place, place + MANY - 1);
@@ -159,17 +159,17 @@ class Rendition {
     }
 }
 
-/// What the origin refuses, in its own words.
+/// A refusal, with the origin's text.
 export class Refused extends Error {}
 
-/// The channel, looked at again and again.
+/// The channel, polled repeatedly.
 export class Channel {
     constructor(base) {
         Object.assign(this, { base });
         this.forget();
     }
 
-    // As if nothing had been asked yet. `wished` has the programmes of the jobs that this page asked for.
+    // Resets to the state before the first request. `wished` has the programmes of the jobs that this page requested.
     forget() {
         Object.assign(this, { renditions: [], status: {}, before: null, list: null, live: [], target: 6, epoch: null, table: null });
         Object.assign(this, { full: null, newestJob: 0, wished: new Map() });
@@ -179,14 +179,14 @@ export class Channel {
         const text = await textOf(`${this.base}status`, 4096);
         const status = Object.fromEntries(text.trim().split("\n").map((line) => line.split(" ")).map(([name, number]) => [name, Number(number)]));
         const run = (await textOf(`${this.base}hls/run`, 4096)).trim();
-        // a log never gets shorter, and a channel keeps its run: an empty one began
+        // the version never decreases, and a channel keeps its run; otherwise an empty channel has begun
         if (status.version < this.status.version || run !== (this.run ?? run)) this.forget();
         this.run = run;
         this.before ??= { version: status.version, at: performance.now() };
         this.status = status;
     }
 
-    // Log entries a second since the page was opened.
+    // Log entries per second since the page was opened.
     get pace() {
         const passed = (performance.now() - this.before.at) / 1000;
         return passed > 20 ? (this.status.version - this.before.version) / passed : null;
@@ -228,7 +228,7 @@ export class Channel {
     get end() { return Math.max(0, ...this.renditions.map(({ newest }) => newest?.to ?? 0)); }
     get start() { return this.table?.table[0].start[0] ?? this.live[0]?.from ?? this.end; }
 
-    // When the log is full (by the version that it has then), and what is kept of each rendition.
+    // Reads the version at which the log is full, and how much is kept of each rendition.
     async lookAtMetrics() {
         const text = await textOf(`${this.base}metrics`);
         const numberOf = (row) => Number(new RegExp(`^${row} (\\d+)$`, "m").exec(text)?.[1] ?? NaN);
@@ -239,39 +239,39 @@ export class Channel {
         }
     }
 
-    // The log's entries that are left; a new log counts on from the one before.
+    // The number of entries that the log has left; a new log continues the count of the previous one.
     get left() { return this.full === null ? null : this.full - this.status.version; }
 
-    // All places that are kept.
+    // Reads the places of all that is kept.
     async survey() {
         await this.lookAtMetrics();
         const last = this.live[this.live.length - 1];
         if (!last) return;
         const to = last.from + last.length;
-        // a job's number leads to those before it
+        // the number of a new job leads to earlier jobs
         if (this.status.jobs > 0 && this.newestJob === 0) await this.remove(await this.cut({ from: last.from, to }));
         const kept = await this.renditions[0].firstKept();
         const newest = Math.max(...this.renditions.map(({ units: [first] }) => first?.from ?? 0));
-        // what is kept begins with a place once something was trimmed; before that, a little later
+        // once something was trimmed, the media kept begin with a place; before that the first place is a little later
         const later = kept === null ? null : kept + this.target * 1000000;
         const starts = [kept, later, newest, this.live[0].from].filter((time) => time !== null && time < to);
         for (let i = 0; i < starts.length; i++) {
             const { refusal, certificate } = await this.tableFrom(starts[i], to);
             if (certificate) this.table = certificate;
             if (certificate) return;
-            // more places than a table holds: the later half of them
+            // more places than a table holds: tries the later half
             if (refusal?.includes("ProgrammeTooLong")) starts.splice(i + 1, 0, Math.floor((starts[i] + to) / 2));
         }
     }
 
-    // The certificate of a programme, or the refusal in the origin's words.
+    // The certificate of a programme, or the origin's refusal.
     async tableFrom(from, to) {
         const reply = await asked(`${this.base}hls/programme/${from}/${to}/certificate.txt`);
         const bytes = await wholeOf(reply, 67108864);
         return reply.status === 200 ? { certificate: read(bytes) } : { refusal: new TextDecoder().decode(bytes), certificate: null };
     }
 
-    // Asks for a catch-up recording; its number.
+    // Requests a catch-up recording. Returns its job's number.
     async cut(wishes) {
         const reply = await asked(`${this.base}catchup?${new URLSearchParams(wishes)}`, { method: "POST" });
         const said = await reply.text();
@@ -298,7 +298,7 @@ export class Channel {
         return asked(`${this.base}job/${number}`, { method: "DELETE", keepalive: true });
     }
 
-    // The jobs that stand: those that came since the newest that is known, and from that one down.
+    // The existing jobs: those after the newest known one, and from that one down.
     async jobs() {
         const found = [];
         const look = async (number) => {

@@ -1,4 +1,4 @@
-// The operators' picture of a channel over time: a lane for the common places, the live segments, each rendition and a job's plan.
+// The operators' timeline of a channel: a lane each for the common places, the live segments, a job's plan and each rendition.
 // Times are microseconds of the channel's clock. Nothing here is to be changed for a site.
 "use strict";
 
@@ -11,7 +11,7 @@ const LEFT = 92;
 const RIGHT = 12;
 const STEPS = [1, 2, 5, 10, 15, 30, 60, 120, 300, 600, 900, 1800, 3600, 7200, 14400, 43200].map((n) => n * 1000000);
 
-/// A picture of a channel on a canvas: what it shows, what is chosen on it, what is drawn.
+/// A timeline of a channel on a canvas: the range that it shows, the chosen range, and the drawing.
 export class Lanes {
     constructor(canvas, channel) {
         Object.assign(this, { canvas, channel, span: [0, 1], shownWidth: null, chosen: null, plan: null, follows: true });
@@ -93,7 +93,7 @@ export class Lanes {
         for (const { from, sync } of first?.units ?? []) if (sync && from < last && !known.has(from) && this.isSeen(from, from)) this.box(from, from, y, LANE, "warm");
     }
 
-    // The last place that the table has.
+    // The time of the last place in the table.
     get last() {
         const { table } = this.channel;
         return table ? table.table[0].start[table.places - 1] : 0;
@@ -129,7 +129,7 @@ export class Lanes {
         units.forEach((unit, i) => { if (unit.gap) this.gap(units[i - 1].to, unit.from, y); });
     }
 
-    // Of units that this page hasn't seen come: how many there are from place to place, and the gaps between.
+    // Draws units from before the page was opened, by the table: how many there are between two places, and the gaps.
     keptUnits(y, { fragment, start, prevEnd, runIn, runOut }, places, seenFrom) {
         for (let p = 0; p < places && start[p] < seenFrom; p++) {
             if (runOut[p] > runIn[p]) this.gap(prevEnd[p], start[p], y);

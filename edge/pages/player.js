@@ -1,28 +1,28 @@
-// The viewers' page's player: loads the segments of a channel or a recording and gives them to the browser by Media Source Extensions.
-// The first video rendition's list says where on the page's own line of time each segment lies, so gaps of the recording, a channel
-// that restarts and seconds without a network leave no hole in what is seen. Nothing here is specific to a site.
+// The player of the viewers' page: loads segments of a channel or a recording and passes them to the browser by Media Source Extensions.
+// The first video rendition's playlist determines where each segment is on the page's own timeline, so gaps in the recording, a restarted
+// channel and seconds without a network leave no hole in playback. Nothing here is specific to a site.
 "use strict";
 
 import { Line, Source } from "./line.js";
 import { readInit, readUnit } from "./mp4.js";
 import { ListFault, ReplyFault, isMaster, load, loadText, readMaster } from "./playlist.js";
 
-const AHEAD = 30; // seconds of media that are loaded ahead of what is seen,
+const AHEAD = 30; // seconds of media that are loaded ahead of the playback position,
 const BEHIND = 30; // and kept before it
 const MEDIA_LIMIT = 268435456;
 const INIT_LIMIT = 16777216;
 const KEPT_MISSES = 300;
-const TRIES = 3; // for a segment that is listed and isn't given
-const SHUNNED = 60; // seconds for which a rendition that fails is left for another one
-const MISPLACED = 1.5; // seconds; renditions of one place lie nearer to each other
-const FIRST_RATE = 3000000; // bits a second that a network is taken to bear until it was measured
+const TRIES = 3; // for a segment that is listed but can't be loaded
+const SHUNNED = 60; // seconds for which a failed rendition isn't used
+const MISPLACED = 1.5; // seconds: at one place the renditions' times differ by less
+const FIRST_RATE = 3000000; // bits a second: the assumed throughput until it is measured
 const STANDS = 3; // seconds without a new picture after which a message says so
-const STUCK = 6; // .. after which what can't be shown is passed over, if more is there
+const STUCK = 6; // .. after which media that can't be shown are skipped, if there are more
 
 const sleep = (seconds) => new Promise((done) => { setTimeout(done, 1000 * seconds); });
 const once = (target, name) => new Promise((done) => { target.addEventListener(name, done, { once: true }); });
 
-// Waits so long, or until this device is online again.
+// Waits the given time, or until this device is online again.
 const sleepOrOnline = (seconds) => new Promise((done) => {
     let timer = 0;
     const end = () => {
@@ -34,10 +34,10 @@ const sleepOrOnline = (seconds) => new Promise((done) => {
     window.addEventListener("online", end);
 });
 
-/// A fault that trying again doesn't mend, in words.
+/// A fault that a retry can't fix, with a message for the viewer.
 class Hopeless extends Error {}
 
-// One kind of media: its renditions, and the source buffer that is filled with one of them after the other.
+// One kind of media: its renditions, and the source buffer that is filled from one of them at a time.
 class Track {
     constructor(player, choices, leads) {
         Object.assign(this, { player, leads, choice: 0, buffer: null, init: null, initKey: "", fetching: null, filling: null, emptied: false, misses: new Map(), shunned: new Map() });
@@ -46,7 +46,7 @@ class Track {
 
     get source() { return this.choices[this.choice].source; }
 
-    // Whether a segment is there, or won't ever be.
+    // Whether a segment is buffered, or never will be.
     has(entry) {
         if (entry.gone || this.misses.get(entry) >= TRIES || this.player.bad.has(entry.sequence)) return true;
         const [{ buffered }, middle] = [this.buffer, entry.at + entry.length / 2];
@@ -54,7 +54,7 @@ class Track {
         return false;
     }
 
-    // What is missing first from what is seen on. Where the leading track hasn't found out a run's shift yet, the others wait.
+    // The first missing segment from the playback position on. Until the leading track knows a run's shift, the other track waits.
     next() {
         const { line, at, ahead, shifts } = this.player;
         for (let i = line.indexAt(at); i < line.entries.length && line.entries[i].at < at + ahead; i++) {
@@ -64,7 +64,7 @@ class Track {
         return null;
     }
 
-    // The rendition's segment of that number, once its list has it. One of another time is of a list from before the channel's restart.
+    // The rendition's segment of an entry's number, once its playlist has it. One with another date is from a playlist before a restart.
     async segmentOf(entry) {
         const isOf = ({ date }) => date === null || entry.date === null || Math.abs(date - entry.date) < 1000 * MISPLACED;
         for (const age of [Infinity, 1, 0]) {
@@ -76,7 +76,7 @@ class Track {
         throw new ReplyFault(404);
     }
 
-    // Reads an init section, and gives it to the buffer once that is there.
+    // Loads an init section, and appends it to the buffer if there is one yet.
     async begin(map) {
         const key = `${map.url} ${map.range}`;
         if (key === this.initKey) return;
@@ -95,7 +95,7 @@ class Track {
         this.buffer.addEventListener("error", () => { if (this.filling) this.player.bad.add(this.filling.sequence); });
     }
 
-    // Fills the buffer for as long as the player is there.
+    // Fills the buffer until the player is closed.
     async feed() {
         await this.append(this.initBytes);
         while (!this.player.closed) {
@@ -113,7 +113,7 @@ class Track {
         }
     }
 
-    // Gives back what another rendition was chosen for, from the end of the segment that is seen.
+    // After a choice of another rendition, drops the old one's media from the end of the current segment on.
     async afterEmptying() {
         if (this.emptied) {
             this.emptied = false;
@@ -136,20 +136,20 @@ class Track {
         this.player.measure(bytes.length, performance.now() - begun);
         this.place(entry, bytes);
         await this.append(bytes);
-        // one that doesn't reach its own middle is all that there is
+        // if its own middle isn't buffered now, loading it again won't help
         if (!this.has(entry)) this.miss(entry, TRIES);
         await this.forget();
     }
 
-    // Where the segment's media times are on the line.
+    // Sets the offset from the segment's media times to the line.
     place(entry, bytes) {
         const { shifts } = this.player;
         const unit = readUnit(bytes, this.init);
-        if (!unit) throw new ListFault("A segment isn't what the list says.");
+        if (!unit) throw new ListFault("A segment doesn't match the playlist.");
         const shift = entry.at - unit.from / 1000000;
         if (this.leads && (!shifts.has(entry.run) || this.misses.has(entry))) shifts.set(entry.run, shift);
         if (Math.abs(shifts.get(entry.run) - shift) > MISPLACED) {
-            // the number is of other media: that list is old
+            // the number belongs to other media: the playlist is old
             this.source.loadedAt = -Infinity;
             throw new ReplyFault(404);
         }
@@ -169,7 +169,7 @@ class Track {
         await once(this.buffer, "updateend");
     }
 
-    // The browser holds no more: less from now on.
+    // The browser's buffer is full: loads less from now on.
     async makeRoom(tried) {
         const { player } = this;
         player.ahead = Math.max(4, player.ahead / 2);
@@ -193,7 +193,7 @@ class Track {
         if (this.misses.size > KEPT_MISSES) this.misses.delete(this.misses.keys().next().value);
     }
 
-    // The best of the renditions that don't fail, by what the network bears; of all where all fail.
+    // The best rendition for a throughput among those that haven't failed, or among all if all have.
     best(rate) {
         const now = performance.now();
         const all = this.choices.map(({ bandwidth }, choice) => ({ bandwidth, choice })).sort((a, b) => a.bandwidth - b.bandwidth);
@@ -202,7 +202,7 @@ class Track {
         return (from.filter(({ bandwidth }) => bandwidth <= rate).pop() ?? from[0]).choice;
     }
 
-    // Leaves a rendition that fails for a while, or for good; whether there is another one.
+    // Stops using a failed rendition for a while, or for good. Returns whether there is another one.
     shun(seconds) {
         this.shunned.set(this.choice, performance.now() + 1000 * seconds);
         const failed = this.choice;
@@ -218,14 +218,14 @@ class Track {
     }
 }
 
-// Loads, places and shows; says by `say` what there is to be said. `bad` has the numbers of segments that the browser can't take.
+// Loads, places and shows segments; `say` shows a message. `bad` has the numbers of segments that the browser can't decode.
 export class Player {
     constructor(video, say, bad) {
         Object.assign(this, { video, say, bad, line: new Line(), tracks: [], shifts: new Map(), ahead: AHEAD, goal: null, rate: 0, automatic: true });
         Object.assign(this, { faults: new Map(), begun: false, closed: false, waiting: [], stand: { at: -1, since: 0 }, rest: { at: -1, since: 0 } });
     }
 
-    // What is seen, or will be once it is there.
+    // The playback position, or the one that is being loaded.
     get at() { return this.goal ?? this.video.currentTime; }
     get isLive() { return !this.line.ended; }
 
@@ -237,7 +237,7 @@ export class Player {
         return new Promise((done) => { this.waiting.push(done); });
     }
 
-    // Begins at a time of a recording, or live.
+    // Opens a playlist, at a time of a recording or live.
     async open(url, from) {
         const { variants, audios } = await this.persist(async () => {
             const text = await loadText(url, { cache: "no-cache" });
@@ -257,9 +257,9 @@ export class Player {
         this.video.src = URL.createObjectURL(source);
         await once(source, "sourceopen");
         URL.revokeObjectURL(this.video.src);
-        // all buffers are there before the first takes anything
+        // browsers require all buffers before the first one gets data
         for (const track of this.tracks) track.open(source);
-        // and the length is said before anything is, since later one of them is always busy at first
+        // the duration is set before, since afterwards one of the buffers is always busy at first
         this.show();
         this.goal = this.isLive ? this.line.live : from;
         for (const work of [...this.tracks.map((track) => track.feed()), this.follow()]) work.catch((fault) => this.fail(fault));
@@ -272,7 +272,7 @@ export class Player {
         for (const track of this.tracks) track.fetching?.abort();
     }
 
-    // Tries until it comes to something.
+    // Repeats some work until it succeeds.
     async persist(work, who = this) {
         while (!this.closed) {
             try {
@@ -286,29 +286,29 @@ export class Player {
         throw new Hopeless("");
     }
 
-    // Follows the first rendition's list for as long as it grows.
+    // Follows the first rendition's playlist while it grows.
     async follow() {
         for (let pause = this.line.target; this.isLive && !this.closed;) {
             await sleep(this.line.doubted ? 1 : pause);
             const end = this.line.end;
             const found = await this.persist(async () => this.line.take(await this.first.fresh(0)));
             if (found === "anew") this.bad.clear();
-            if (found === "anew") this.say("The channel began anew.", 8);
-            if (found === "lost") this.say("A part was missed while there was no connection.", 8);
-            // RFC 8216 6.3.4: after a list that hasn't changed, half of a target
+            if (found === "anew") this.say("The channel was restarted.", 8);
+            if (found === "lost") this.say("A part was missed while the connection was lost.", 8);
+            // RFC 8216 6.3.4: half a target duration if the playlist hasn't changed
             pause = this.line.end > end ? this.line.target : this.line.target / 2;
             this.wake();
         }
     }
 
-    // Says the line's ends to the browser.
+    // Sets the line's duration and seekable range in the browser.
     show() {
         if (this.source?.readyState !== "open" || this.tracks.some((track) => track.buffer.updating)) return;
         if (this.isLive) {
             if (this.source.duration !== Infinity) this.source.duration = Infinity;
             this.source.setLiveSeekableRange(this.line.start, this.line.end);
         } else if (!(Math.abs(this.source.duration - this.line.end) < 1)) {
-            // not less than what is held
+            // not less than what is buffered
             const ends = this.tracks.map(({ buffer: { buffered } }) => buffered.length > 0 ? buffered.end(buffered.length - 1) : 0);
             this.source.duration = Math.max(this.line.end, ...ends);
         }
@@ -324,23 +324,23 @@ export class Player {
         this.tick();
     }
 
-    // Several times a second: begins, continues after what can't be loaded, ends.
+    // Several times a second: starts playback, skips what can't be loaded, ends the stream.
     tick() {
         const { video: { buffered }, line } = this;
         this.show();
         const ranges = [...Array(buffered.length).keys()].map((i) => [buffered.start(i), buffered.end(i)]);
         const last = ranges.length > 0 ? ranges[ranges.length - 1][1] : 0;
-        // a recording's media may end just where its list says, or a little before
+        // a recording's media may end a little before its playlist says
         if (this.goal !== null && !this.isLive && Math.abs(line.end - last) < 0.5) this.goal = Math.min(this.goal, last - 0.15);
         const { at } = this;
-        // browsers stop a little before the end of what they hold
+        // browsers stop a little before the end of what is buffered
         const rest = this.stood() > 0.7 ? 1 : 0.1;
         const range = ranges.find(([, end]) => end > at + rest);
         const isStuck = this.unmoved() > STUCK;
         if (range && range[0] <= at + 0.05) this.arrive(isStuck ? Math.min(at + 0.5, range[1] - 0.05) : at, isStuck);
         else if (range && (this.isLoadedUpTo(range[0]) || (isStuck && this.tracks.every((track) => !track.next())))) this.arrive(range[0] + 0.01, true);
         else if (!range && at < line.start - 1) {
-            this.say("That part isn't kept any more; the first that is comes next.", 8);
+            this.say("That part isn't available any more. Playback continues with the earliest part that is.", 8);
             this.goal = line.start;
         }
         const isWhole = !this.isLive && this.tracks.every((track) => !track.buffer.updating && track.has(line.last) && !track.next());
@@ -349,28 +349,28 @@ export class Player {
         this.wake();
     }
 
-    // For how many seconds it would play and hasn't moved.
+    // For how many seconds playback has waited for data.
     stood() {
         const { video: { currentTime, paused, readyState, ended }, stand } = this;
         if (currentTime !== stand.at || paused || ended || readyState > 2 || this.goal !== null) this.stand = { at: currentTime, since: performance.now() };
         return (performance.now() - this.stand.since) / 1000;
     }
 
-    // For how many seconds it hasn't moved, whatever the browser says of what it has.
+    // For how many seconds the position hasn't moved, whatever the browser says it has buffered.
     unmoved() {
         const { video: { currentTime, paused, ended }, rest } = this;
         if (currentTime !== rest.at || paused || ended || this.goal !== null) this.rest = { at: currentTime, since: performance.now() };
         return (performance.now() - this.rest.since) / 1000;
     }
 
-    // A picture that stands, though nothing has failed, is explained as long as it does.
+    // Explains a frozen picture if nothing has failed, as long as it is frozen.
     sayStanding() {
         const stood = this.stood();
         if (stood < 0.3) this.well(this.video);
         if (stood < STANDS || this.faults.size > 0) return;
         this.faults.set(this.video, 1);
         const isAllSeen = this.isLive && this.at > this.line.end - 1;
-        this.say(isAllSeen ? "Nothing new comes from the channel just now. It goes on by itself once something does." : "Loading ..");
+        this.say(isAllSeen ? "The channel isn't sending anything new at the moment. Playback resumes by itself when it does." : "Loading ..");
     }
 
     arrive(time, jumps = false) {
@@ -381,7 +381,7 @@ export class Player {
         if (Math.abs(this.video.currentTime - time) > 0.001) this.video.currentTime = time;
     }
 
-    // Whether nothing more will come between here and a later time.
+    // Whether everything between here and a later time is buffered, or never will be.
     isLoadedUpTo(time) {
         const { line, at } = this;
         const between = line.entries.slice(line.indexAt(at)).filter((entry, i, { length }) => i < length && entry.at + entry.length / 2 < time);
@@ -393,7 +393,7 @@ export class Player {
         this.rate = this.rate === 0 ? rate : 0.7 * this.rate + 0.3 * rate;
     }
 
-    // The best rendition that the network bears, with less trust while there is little ahead.
+    // Chooses the best rendition for the measured throughput, more cautiously while little is buffered.
     adapt(track) {
         if (!this.automatic || this.rate === 0) return;
         const { buffered } = track.buffer;
@@ -405,7 +405,7 @@ export class Player {
         if (this.faults.delete(who) && this.faults.size === 0) this.say("");
     }
 
-    // Says what is wrong, and waits before another try.
+    // Shows what is wrong, and waits before the next try.
     async trouble(fault, who, entry) {
         if (fault.name === "AbortError" || this.closed) return;
         if (fault instanceof Hopeless && who.choices?.length > 1 && who.shun(Infinity)) {
@@ -418,7 +418,7 @@ export class Player {
         if (entry && (fault instanceof ListFault || (fault instanceof ReplyFault && fault.status < 429))) who.miss(entry);
         const times = (this.faults.get(who) ?? 0) + 1;
         this.faults.set(who, times);
-        if (entry && who.misses.get(entry) >= TRIES) this.say("A part is missing and is left out.", 8);
+        if (entry && who.misses.get(entry) >= TRIES) this.say("A part is missing and is skipped.", 8);
         else if (!entry || times > 1) this.say(wordsFor(fault, this.begun));
         await sleepOrOnline(Math.min(times, 5));
     }
@@ -426,24 +426,24 @@ export class Player {
     fail(fault) {
         if (this.closed) return;
         this.close();
-        this.say(fault instanceof Hopeless ? fault.message : "The browser couldn't play what came.", Infinity);
+        this.say(fault instanceof Hopeless ? fault.message : "The browser couldn't play this.", Infinity);
         this.video.dispatchEvent(new CustomEvent("hopeless"));
     }
 }
 
 const statusWords = {
-    403: "This isn't open to you.",
-    409: "This recording isn't finished yet. It begins by itself once it is.",
-    410: "What was asked for isn't kept any more.",
-    429: "The server has too much to do. It is tried again.",
+    403: "You have no access to this.",
+    409: "This recording isn't finished yet. Playback starts by itself when it is.",
+    410: "This isn't available any more.",
+    429: "The server is busy. Trying again.",
 };
 
 function wordsFor(fault, begun) {
     if (fault instanceof ListFault) return fault.message;
     if (!(fault instanceof ReplyFault)) {
-        return navigator.onLine ? "There is no connection to the server. It is tried again and again." : "This device isn't online. It goes on by itself once it is.";
+        return navigator.onLine ? "There is no connection to the server. Trying again." : "This device is offline. Playback resumes by itself when it is online.";
     }
-    if (fault.status === 404 && begun) return "The channel isn't there just now. It goes on by itself once it is.";
-    if (fault.status === 404) return "Nothing is on air here yet. It begins by itself as soon as something is.";
-    return statusWords[fault.status] ?? `The server can't answer just now (${fault.status}). It is tried again.`;
+    if (fault.status === 404 && begun) return "The channel isn't available at the moment. Playback resumes by itself when it is.";
+    if (fault.status === 404) return "Nothing is on air here yet. Playback starts by itself as soon as something is.";
+    return statusWords[fault.status] ?? `The server can't answer at the moment (${fault.status}). Trying again.`;
 }

@@ -1,15 +1,15 @@
 // Reads the playlists of a channel and of its recordings (docs/FORMATS.md), with segments by paths of their own or by byte ranges.
-// What a list says is a stranger's word: addresses must stay on the page's own host, numbers within their limits, else the
-// list is refused in words. Nothing here is to be changed for a site.
+// A playlist isn't trusted: unless its addresses stay on the page's own host and its numbers within their limits, it is rejected with
+// a message. Nothing here is to be changed for a site.
 "use strict";
 
-const SILENCE = 15000; // milliseconds without a byte, after which a request is given up
+const SILENCE = 15000; // milliseconds without a byte after which a request is aborted
 const LIMITS = { bytes: 16777216, segments: 131072, renditions: 256, target: 3600 };
 
-/// A list that can't be used, in words that a viewer may read.
+/// A playlist that can't be used, with a message for the viewer.
 export class ListFault extends Error {}
 
-/// A reply that isn't what was asked for.
+/// A response with another status than the expected one.
 export class ReplyFault extends Error {
     constructor(status) {
         super(`status ${status}`);
@@ -17,15 +17,15 @@ export class ReplyFault extends Error {
     }
 }
 
-/// Fetches all of a text or, by a range of first and last byte, of media; refuses what is longer than it may be, and gives up
-/// where nothing comes for a while.
+/// Fetches a whole resource or a range (first and last byte) of it. Rejects a response that is longer than the limit, and gives up
+/// if nothing arrives for a while.
 export async function load(url, { range = null, limit = LIMITS.bytes, signal = undefined, cache = undefined } = {}) {
     signal?.throwIfAborted();
     const controller = new AbortController();
     let timer = 0;
     const wait = () => {
         clearTimeout(timer);
-        timer = setTimeout(() => controller.abort(new Error("nothing came")), SILENCE);
+        timer = setTimeout(() => controller.abort(new Error("nothing arrived")), SILENCE);
     };
     signal?.addEventListener("abort", () => controller.abort(signal.reason), { once: true });
     wait();
@@ -39,7 +39,7 @@ export async function load(url, { range = null, limit = LIMITS.bytes, signal = u
     }
 }
 
-/// All of a reply's bytes, unless there are more than there may be.
+/// All bytes of a response, if there aren't more than the limit.
 export async function wholeOf(reply, limit, came = () => {}) {
     const pieces = [];
     let length = 0;
@@ -50,7 +50,7 @@ export async function wholeOf(reply, limit, came = () => {}) {
         length += value.length;
         if (length > limit) {
             reader.cancel();
-            throw new ListFault("A reply is longer than it may be.");
+            throw new ListFault("A response is too long.");
         }
         pieces.push(value);
     }
@@ -61,7 +61,7 @@ export async function wholeOf(reply, limit, came = () => {}) {
 
 export const loadText = async (url, options) => new TextDecoder().decode(await load(url, options));
 
-/// An address that a list or a query names, if it is on the same host as the base.
+/// The absolute form of an address in a playlist or a query, if it is on the same host as the base.
 export function addressOf(text, base) {
     let url = null;
     try {
@@ -69,18 +69,18 @@ export function addressOf(text, base) {
     } catch {
         throw new ListFault("An address can't be read.");
     }
-    if (url.origin !== new URL(base).origin || !/^https?:$/.test(url.protocol)) throw new ListFault("An address is on another host, which this page doesn't ask.");
-    // a page that was opened with a password in its address: the browser sends that by itself
+    if (url.origin !== new URL(base).origin || !/^https?:$/.test(url.protocol)) throw new ListFault("An address is on another host, which this page doesn't contact.");
+    // if the page's own address has a password, the browser sends it by itself
     url.username = url.password = "";
     return url.href;
 }
 
 function whole(text) {
-    if (!/^\d{1,15}$/.test(text)) throw new ListFault("A number in the list isn't one.");
+    if (!/^\d{1,15}$/.test(text)) throw new ListFault("A number in the playlist isn't valid.");
     return Number(text);
 }
 
-// One attribute begins where the one before ended: so a long line is read once, whatever it contains.
+// Each attribute begins where the previous one ended, so a long line is read only once, whatever it contains.
 function attributesOf(text) {
     const found = {};
     for (const [, name, quoted, plain] of text.matchAll(/([A-Z0-9-]+)=(?:"([^"]*)"|([^",]*))(?:, *|$)/gy)) found[name] = quoted ?? plain;
@@ -89,14 +89,14 @@ function attributesOf(text) {
 
 function linesOf(text) {
     const lines = text.split(/\r?\n/);
-    if (lines[0] !== "#EXTM3U") throw new ListFault("What came isn't a playlist.");
+    if (lines[0] !== "#EXTM3U") throw new ListFault("The response isn't a playlist.");
     return lines;
 }
 
-/// Whether a list names other lists.
+/// Whether a playlist is a master playlist.
 export const isMaster = (text) => /^#EXT-X-STREAM-INF:/m.test(text);
 
-/// The variants of a master playlist, and the audio renditions that they may be heard with.
+/// The variants of a master playlist, and its audio renditions.
 export function readMaster(text, base) {
     const found = { variants: [], audios: [] };
     let variant = null;
@@ -111,16 +111,16 @@ export function readMaster(text, base) {
             found.variants.push({ ...variant, url: addressOf(line, base) });
             variant = null;
         }
-        if (found.variants.length + found.audios.length > LIMITS.renditions) throw new ListFault("The list names too many renditions.");
+        if (found.variants.length + found.audios.length > LIMITS.renditions) throw new ListFault("The playlist has too many renditions.");
     }
-    if (found.variants.length === 0) throw new ListFault("The list names no stream.");
+    if (found.variants.length === 0) throw new ListFault("The playlist has no stream.");
     return found;
 }
 
-// `n@o`, or `n` after the range before it: first and last byte.
+// The first and last byte of `n@o`, or of `n`, which follows the range before it.
 function rangeOf(text, before) {
     const [length, offset] = text.split("@");
-    if (offset === undefined && !before) throw new ListFault("A byte range has no beginning.");
+    if (offset === undefined && !before) throw new ListFault("A byte range has no offset.");
     const first = offset === undefined ? before[1] + 1 : whole(offset);
     if (whole(length) === 0) throw new ListFault("A byte range is empty.");
     return [first, first + whole(length) - 1];
@@ -132,7 +132,7 @@ function microseconds(text) {
     return Number(found[1]) * 1000000 + Number((found[2] ?? "").slice(0, 6).padEnd(6, "0"));
 }
 
-/// A media playlist: each segment with its number, length in microseconds, place, and what stands before it.
+/// A media playlist: each segment with its number, its length in microseconds, its address, and the tags that precede it.
 export function readMedia(text, base) {
     const found = { sequence: 0, target: 0, ended: false, segments: [] };
     let [map, range, date, mark, length, before] = [null, null, null, false, null, null];
@@ -150,15 +150,15 @@ export function readMedia(text, base) {
         else if (line.startsWith("#EXTINF:")) length = microseconds(value);
         else if (line.startsWith("#EXT-X-ENDLIST")) found.ended = true;
         else if (line && !line.startsWith("#")) {
-            if (length === null || !map) throw new ListFault("A segment has no length or no beginning.");
+            if (length === null || !map) throw new ListFault("A segment has no length or no init section.");
             const url = addressOf(line, base);
             before = range === null ? null : rangeOf(range, before);
             found.segments.push({ sequence: found.sequence + found.segments.length, url, range: before, map, length, date: Number.isNaN(date) ? null : date, mark });
-            if (found.segments.length > LIMITS.segments) throw new ListFault("The list has too many segments.");
+            if (found.segments.length > LIMITS.segments) throw new ListFault("The playlist has too many segments.");
             [range, date, mark, length] = [null, null, false, null];
         }
     }
-    if (found.target < 1) throw new ListFault("The list says no target duration.");
-    if (found.target > LIMITS.target) throw new ListFault("The list's target duration is longer than it may be.");
+    if (found.target < 1) throw new ListFault("The playlist has no target duration.");
+    if (found.target > LIMITS.target) throw new ListFault("The playlist's target duration is too long.");
     return found;
 }

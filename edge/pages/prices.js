@@ -1,6 +1,6 @@
-// A certificate checked and its prices drawn, for both pages: the verdict in words, and a picture of the places by time and by
-// price with the plan through them. The check runs in a worker, so a large certificate doesn't hold up the page. Nothing here is
-// to be changed for a site.
+// Checks a certificate and draws its prices, for both pages: the verdict in words, and a chart of the places by time and price, with
+// the plan as a line. The check runs in a worker, so a large certificate doesn't block the page. Nothing here is to be changed for a
+// site.
 "use strict";
 
 import { lengthOf } from "./certificate.js";
@@ -10,12 +10,12 @@ const NARROW = 480;
 const MARGIN = { left: 64, right: 16, top: 14, bottom: 28 };
 
 const meanings = {
-    Form: ([line]) => `Line ${line} isn't as a certificate's must be.`,
+    Form: ([line]) => `Line ${line} is malformed.`,
     TableNotSorted: ([place]) => `Place ${place} is out of order.`,
     PlanEnds: () => "The plan doesn't go from the first place to the last.",
     PlanStep: ([p, q]) => `The plan goes from place ${p} to place ${q}, which isn't an allowed step.`,
     PlanCost: () => "The plan's cost, the printed cost and the last price aren't equal.",
-    PriceStart: () => "The first place isn't where the proof must begin.",
+    PriceStart: () => "The first place's price isn't 0, or it isn't in the closed set.",
     PriceStep: ([p, q]) => `The step from place ${p} to place ${q} is cheaper than the prices say.`,
     EndReached: () => "The end can be reached, though the certificate says that it can't.",
 };
@@ -34,7 +34,7 @@ export function wordsOf({ said, good, certificate }) {
     return `Checked here: of all cuts at these ${certificate.places} places none costs less than this one, ${seconds(certificate.cut, 3)}${charge}, in ${parts === 1 ? "one segment" : `${parts} segments`}.`;
 }
 
-// The page's colours of the moment, each looked up once for a drawing.
+// The page's current colours, each looked up once per drawing.
 function palette() {
     const style = getComputedStyle(document.documentElement);
     const known = new Map();
@@ -55,7 +55,7 @@ export function checkAside(bytes) {
     });
 }
 
-// A canvas of its own width in points, sharp on every screen.
+// Sizes a canvas to its width on the page, at the screen's resolution.
 export function surface(canvas, height) {
     const [width, ratio] = [canvas.clientWidth || NARROW, window.devicePixelRatio || 1];
     [canvas.width, canvas.height] = [Math.round(width * ratio), Math.round(height * ratio)];
@@ -66,7 +66,7 @@ export function surface(canvas, height) {
     return { pen, width, height, colour: palette() };
 }
 
-// A round step that fits this many times.
+// The smallest round step that fits into a span at most the given number of times.
 const stepOf = (span, most) => [1, 2, 5].flatMap((n) => Array.from({ length: 16 }, (_, e) => n * 10 ** e)).sort((a, b) => a - b).find((step) => span / step <= most) ?? span;
 
 /// Draws the prices of a certificate's places over time: the plan's as a line, the others as dots.

@@ -1,6 +1,6 @@
-// The viewers' page: what is seen and done around the player (player.js), which plays a live channel or a recording; where there are
-// no Media Source Extensions (iPhone) the browser's own player does. For a site nothing is to be changed; ?list= names another list
-// of the same host, by default hls/master.m3u8 beside the page.
+// The viewers' page: the controls around the player (player.js), which plays a live channel or a recording. Without Media Source
+// Extensions (iPhone) the browser's own player is used. ?list= names another playlist on the same host; by default it is
+// hls/master.m3u8 beside the page. Nothing here is to be changed for a site.
 "use strict";
 
 import { Player } from "./player.js";
@@ -29,7 +29,7 @@ const digits = (number) => String(Math.floor(number)).padStart(2, "0");
 const spell = (seconds) => `${seconds >= 3600 ? `${Math.floor(seconds / 3600)}:` : ""}${digits(seconds / 60 % 60)}:${digits(seconds % 60)}`;
 const clockOf = (date) => new Date(date).toLocaleTimeString("en-GB");
 
-// A time of the line in words: by the clock where there are dates, else by how far from live or from the beginning.
+// A time on the line as text: the date's time of day, if there are dates, and the distance from live or from the beginning.
 function wordsAt(time) {
     const { line } = player;
     const date = line.dateAt(time);
@@ -66,7 +66,7 @@ function paint() {
     nameChoices();
 }
 
-// Offers the renditions by what their lists say.
+// Fills a menu with the names of renditions; hidden if there is no choice.
 function offer(kind, names) {
     const select = $(`${kind}s`);
     $(`${kind}Label`).hidden = names.length < 2;
@@ -91,7 +91,7 @@ async function play() {
         if (fault.name !== "NotAllowedError" || video.muted) return;
         video.muted = true;
         video.play().catch(() => {});
-        say("The sound is off, as this browser wants it. M turns it on.", 8);
+        say("This browser turned the sound off. Press M to turn it on.", 8);
     }
 }
 
@@ -138,23 +138,23 @@ function listen() {
     });
     $("audios").addEventListener("change", ({ target }) => player.tracks[1].choose(Number(target.value)));
     video.addEventListener("click", actions.play);
-    // a tab that sleeps is stopped by the browser, and isn't begun by it again
+    // the browser pauses a tab that it freezes, and doesn't resume it
     let played = false;
     document.addEventListener("freeze", () => { played = !video.paused; });
     document.addEventListener("resume", () => { if (played) play(); });
 }
 
-// A recording's certificate, which is beside its list: checked here on demand.
+// Checks a recording's certificate, which is beside its playlist, when the viewer opens the section.
 async function prove(url) {
     if (!$("proof").open) return;
-    $("verdict").textContent = "Its certificate is checked ..";
+    $("verdict").textContent = "Checking its certificate ..";
     try {
         const answer = await checkAside(await load(new URL("certificate.txt", url).href, { limit: CERTIFICATE_LIMIT }));
         $("verdict").textContent = wordsOf(answer);
         $("prices").hidden = !answer.certificate;
         if (answer.certificate) drawPrices($("prices"), answer.certificate);
     } catch {
-        $("verdict").textContent = "There is no certificate beside it.";
+        $("verdict").textContent = "There is no certificate for it, or it can't be loaded.";
     }
 }
 
@@ -164,7 +164,7 @@ function playNatively(url) {
     video.controls = true;
     video.src = url;
     video.addEventListener("error", async () => {
-        say("Nothing can be played here just now. It is tried again.");
+        say("Nothing can be played here at the moment. Trying again.");
         await sleep(3);
         video.load();
         play();
@@ -196,9 +196,9 @@ function main() {
         return say(fault.message);
     }
     say("Loading ..");
-    if (!("MediaSource" in window)) return video.canPlayType("application/vnd.apple.mpegurl") ? playNatively(url) : say("This browser can play no such stream.");
+    if (!("MediaSource" in window)) return video.canPlayType("application/vnd.apple.mpegurl") ? playNatively(url) : say("This browser can't play this kind of stream.");
     listen();
-    // What the browser can't take is left out: a segment that it refuses, else two seconds from where it stopped; not for ever.
+    // After an error playback restarts without the segment that the browser refused, or two seconds later; not forever.
     let restarts = 0, refused = 0;
     video.addEventListener("error", () => {
         const { at, bad } = player;
