@@ -1,4 +1,4 @@
-"""Reads the sources, and writes the documents that derive from them. `tools/docs` is the command; the gate's checks import this."""
+"""Reads the sources and generates the documents that derive from them. `tools/docs` is the command; the gate's checks import this module."""
 import os
 import re
 
@@ -8,7 +8,7 @@ PROMISES = "docs/promises.txt"
 EXAMPLES = "docs/examples.txt"
 MEANINGS = "crates/hls_commands/src/meanings.rt"
 WIDTH = 110
-# where a source or a script defines a name
+# the line on which a source or a script defines a name
 DEFINED = r"(?m)^\s*(#\[test\]\s+)?(?:pub )?(fn|const|static|def|macro_rules!)\s+%s\b"
 
 
@@ -20,7 +20,7 @@ def text_of(path):
 
 
 def crates_in_order():
-    """Each crate of crates.txt with its line of comment."""
+    """Each crate of crates.txt with its comment line."""
     said, found = "", []
     for line in text_of(os.path.join(ROOT, "crates.txt")).splitlines():
         if line.startswith("#"):
@@ -42,7 +42,7 @@ def files(folder, ending):
 # Sources.
 
 def without_texts(source):
-    """The source with its comments and quoted texts blanked; every other character keeps its position."""
+    """The source with its comments and string literals blanked; every other character keeps its position."""
     blanked = list(source)
 
     def blank(begin, end):
@@ -332,7 +332,7 @@ def visible(crate, sources):
 # Definitions.
 
 class Specs:
-    """The definitions of all crates, by crate and file, and what each cites."""
+    """The definitions of all crates, by crate and file, with those that each cites."""
 
     def __init__(self, crates):
         self.files, self.at = {}, {}
@@ -376,7 +376,7 @@ class Specs:
         return found
 
     def reaches(self, froms):
-        """All definitions that some cite, directly or through others."""
+        """All definitions that the given ones cite, directly or through others."""
         seen, ahead = set(), list(froms)
         while ahead:
             one = ahead.pop()
@@ -401,7 +401,7 @@ class Repository:
 # The promises, the worked examples and the refusals.
 
 class Item:
-    """A call or a definition that carries a promise: its file, its name, the labels that matter (none: all), and what else is said."""
+    """A call or a definition that carries a promise: its file, its name, the labels that matter (none: all), and notes."""
 
     def __init__(self, kind, path, name, labels, number):
         self.kind, self.path, self.name, self.labels, self.number = kind, path, name, labels, number
@@ -464,7 +464,7 @@ def meanings():
 
 
 def serve_options():
-    """The options of `serve` in `--help`, each with its default and its range, empty where the text has none."""
+    """The options of `serve` in `--help`, each with its default and its range, empty if the text has none."""
     text = re.search(r'const HELP: &str = "(.*?)(?<!\\)";', text_of(os.path.join(ROOT, "crates/hls_origin/src/main.rt")), re.S).group(1)
     part = re.search(r"(?ms)^serve: .*?(?=^Each option)", text).group(0)
     found = {}
@@ -475,49 +475,49 @@ def serve_options():
     return found
 
 
-# What is written.
+# The generated documents.
 
 REFERENCE_HEAD = """# Reference
 
 Each public call of the crates, lowest crate first, with the labels of its clauses and the definitions that they cite. GUARANTEES.md
-has the promises, CLAUSES.md the calls of each promise, and CRATES.md what each crate is for.
+has the promises, CLAUSES.md the calls of each promise, and CRATES.md the purpose of each crate.
 
-*Asks* is what a caller must know before the call (`requires`), *gives* what holds after it (`ensures`). A word in code letters
+*Asks* is what a caller must ensure before the call (`requires`), *gives* what holds after it (`ensures`). A name in code font
 before the colon is the clause's label. A clause that cites no definition of this repository is printed if it is short. Every
-call is safe and, unless it waits for another thread or the system, returns; a call without clauses promises no more. A law is a
-call without a body: its clause is a theorem.
+call is safe, and it returns unless it waits for another thread or the system; a call without clauses promises no more. A law is
+a call without a body: its clause is a theorem.
 """
 CLAUSES_HEAD = """# Clauses by promise
 
-Each promise of GUARANTEES.md with the public calls and laws whose contracts carry it, their clauses, and the definitions that these
-cite. *Asks* is a `requires`, *gives* an `ensures`; a word in code letters before the colon is the clause's label. After *through*
-are definitions that the clause reaches through those that it cites. REFERENCE.md has every public call.
+Each promise of GUARANTEES.md with the public calls and laws whose contracts state it, their clauses, and the definitions that these
+cite. *Asks* is a `requires`, *gives* an `ensures`; a name in code font before the colon is the clause's label. *Through* precedes
+definitions that the clause reaches through those that it cites. REFERENCE.md has every public call.
 """
 CRATES_HEAD = """# The crates
 
-Each crate, lowest first: what it is for, what it uses, its public items, and its definitions. Those of the first list are cited by
-public clauses and laws, so they carry the crate's promises; the others serve proofs, code or tests alone. ARCHITECTURE.md has the
-map, REFERENCE.md each public call with its clauses.
+Each crate, lowest first: its purpose, the crates that it uses, its public items, and its definitions. Definitions in the first list
+are cited by public clauses and laws, so the crate's promises depend on them; the others only serve proofs, code or tests.
+ARCHITECTURE.md has an overview, REFERENCE.md each public call with its clauses.
 """
 EXAMPLES_HEAD = """# Worked examples
 
-Each worked example and the tests that show it. Expected values are computed by hand or come from outside, never from the program.
+Each worked example and the tests that show it. Expected values are computed independently of the program.
 Files under `crates/` are proved and run by the gate; `tests/gate/programs`, `tests/gate/worked_examples` and `tests/gate/out_of_memory_serve` run the program
 that the gate built, and `tests/gate/calls` compiles a crate of tests without a proof.
 
-An init section has 600 bytes and a unit 1000, of 90000 ticks a second; the target is 6 s, the preferred length 4 s. `[0,4)` is a
-unit from second 0 to 4. Not shown: job ids that are used up, since 2^53 jobs would have to be added; `add` then refuses by its
-contract.
+An init section has 600 bytes and a unit 1000, with 90000 ticks a second; the target is 6 s, the preferred length 4 s. `[0,4)` is a
+unit from second 0 to second 4. Exhausted job ids aren't shown, since 2^53 jobs would have to be added; by its contract `add` then
+refuses.
 """
 REFUSALS_HEAD = """# What each refusal means, and what to change
 
-`hls_origin explain NAME` prints a name's line, and `hls_origin explain` all names; so does the manual page hls_origin-refusals(7).
-REFUSALS.md says when each comes, and in which order.
+`hls_origin explain NAME` prints a name's line, and `hls_origin explain` all names. The manual page hls_origin-refusals(7) has all lines.
+REFUSALS.md says when each refusal occurs, and in which order they are checked.
 """
 
 
 class Links:
-    """Links to sources and documents: from a folder of a checkout, or none to sources, as in the package."""
+    """Links to sources and documents, relative to a folder; in the package there are none to sources."""
 
     def __init__(self, folder, is_plain):
         self.folder, self.is_plain = folder, is_plain
@@ -532,7 +532,7 @@ class Links:
         return "[%s](%s)" % (name, name if self.is_plain else self.relative("docs/" + name))
 
     def text(self, markdown):
-        """A text of docs/ with its links led from the folder."""
+        """A text of docs/ with its links made relative to the folder."""
         def led(found):
             words, path = found.groups()
             if path.startswith("../"):
@@ -596,7 +596,7 @@ def reference(repo, links):
         shown, others = visible(crate, repo.sources[crate])
         lines += ["", "## %s" % crate, ""] + wrapped(sentence(said))
         if is_program(repo.sources[crate]):
-            lines += ["", "It is a program: no other crate calls it."]
+            lines += ["", "A program: no other crate calls it."]
         if others:
             lines += [""] + wrapped("Re-exported from other crates: %s." % ", ".join("`%s`" % it for it in others))
         last = None
@@ -631,7 +631,7 @@ def clauses_by_promise(repo, links):
 
 
 def item_lines(repo, links, item):
-    """A call with the clauses that matter and what these reach, or a definition."""
+    """The lines of a call, with the clauses that matter and what these reach, or of a definition."""
     if item.kind == "definition":
         return ["- definition " + links.source(item.name, item.path)] + ["  - " + note for note in item.notes]
     calls = calls_of(repo, item)
@@ -680,7 +680,7 @@ def crate_says(sources):
 
 
 def source_links(links, crate, text):
-    """A comment's links to definitions led from the folder; its links to items as plain names."""
+    """A comment with its links to definitions made relative to the folder, and its links to items replaced by names."""
     text = re.sub(r"\[`([^`]+)`\]\(\.\./(specs/[^)]+)\)", lambda it: links.source(it.group(1), "crates/%s/%s" % (crate, it.group(2))), text)
     return re.sub(r"\[(`[^`]+`)\](?:\([\w:]+\))?(?!\()", r"\1", text)
 
@@ -745,7 +745,7 @@ def crates(repo, links):
             for it in chosen:
                 lines += wrapped("%s: %s." % (links.source(it[1], repo.specs.at[it]), first[it]), "  - ", "    ")
         if inner:
-            lines += wrapped("Definitions for proofs alone: %s." % ", ".join(links.source(it[1], repo.specs.at[it]) for it in inner), "- ", "  ")
+            lines += wrapped("Definitions only for proofs: %s." % ", ".join(links.source(it[1], repo.specs.at[it]) for it in inner), "- ", "  ")
     return "\n".join(lines) + "\n"
 
 
