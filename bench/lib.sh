@@ -1,17 +1,17 @@
-# The common part of the benchmarks: each runs in a repository of its own, made for the run, with copies of this repository's crates
-# and a program from its folder in bench/.
+# The common part of the benchmarks. Each runs in a repository of its own, made for the run, with copies of this repository's crates
+# and the program in its folder.
 #
 #   source bench/lib.sh
 #   bench_program NAME "CRATE CRATE .." "LIBRARY .." [FOLDER]
 #
-# makes the program of bench/NAME/program.txt, or of another folder (the gate reads each .rt file as a crate's), which uses
-# these crates of this repository and these libraries of the kit. The crates' dependencies are proved first, in this repository
-# and as `bash build` does it, so that they are kept, and what a build left isn't proved again. It leaves in BENCH_PROGRAM the path
-# of the built program, and removes the folder of the run when the script ends. BENCH_KEEP=1 keeps it.
+# builds bench/NAME/program.txt, or FOLDER/program.txt, with these crates of this repository and these libraries of the kit. (It isn't
+# named .rt, since the gate reads each such file as a crate's.) The crates are proved first, in this repository, as by `bash build`,
+# so what a build has proved isn't proved again. BENCH_PROGRAM is then the path of the program. The folder of the run is removed when
+# the script ends, unless BENCH_KEEP is set.
 
 bench_root=$(cd "$(dirname "${BASH_SOURCE[0]}")/.." && pwd)
 
-# bench_below CRATE..: these crates and their dependencies, in the order of crates.txt.
+# bench_below CRATE..: prints these crates and their dependencies, in the order of crates.txt.
 bench_below() {
     awk -F: -v top="$*" '
         !/^#/ && NF { name[++count] = $1; uses[count] = $2 }

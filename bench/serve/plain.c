@@ -1,5 +1,5 @@
-/* A plain loop beside an origin's ingest: takes one PUT over one connection in reads of 64 KiB and keeps the bytes in blocks of
-   their own, of so many bytes each; all of them, or the last so many. Looks at nothing.
+/* A plain loop that an origin's ingest is compared with. It accepts one PUT over one connection in reads of 64 KiB, and keeps the
+   bytes in blocks of UNIT bytes: all of them, or the last BLOCKS. It doesn't parse them.
 
        plain PORT UNIT [BLOCKS] */
 #define _GNU_SOURCE
