@@ -138,7 +138,7 @@ def stop(encoders):
 # What is in front of an origin: the edge, or a proxy that passes its lists on as they are.
 
 class Proxy:
-    """nginx with TLS that serves the pages and passes everything else to an origin: lists with byte ranges, as the origin writes them."""
+    """nginx with TLS that serves the pages and passes everything else to an origin, without a cache."""
 
     def __init__(self, folder, port):
         self.folder, self.port = os.path.join(folder, "proxy"), free_port()
@@ -151,7 +151,7 @@ events {{ worker_connections 1024; }}
 http {{ include /etc/nginx/mime.types; access_log off; {temporary}
 server {{ listen 127.0.0.1:{self.port} ssl http2; ssl_certificate {self.folder}/edge.crt; ssl_certificate_key {self.folder}/edge.key;
 location / {{ root {PAGES}; add_header Content-Security-Policy "{CSP}" always; }}
-location ~ ^/(live|media|job|status|catchup)(/|$) {{ proxy_pass http://127.0.0.1:{port}; proxy_http_version 1.1; proxy_set_header Connection ""; proxy_read_timeout 10s; }}
+location ~ ^/(hls|live|media|job|status|catchup)(/|$) {{ proxy_pass http://127.0.0.1:{port}; proxy_http_version 1.1; proxy_set_header Connection ""; proxy_read_timeout 10s; }}
 location /origin/1/ {{ proxy_pass http://127.0.0.1:{port}/; proxy_http_version 1.1; proxy_set_header Connection ""; }} }} }}""")
         self.url = f"https://localhost:{self.port}"
         self.start()
