@@ -1,6 +1,6 @@
 -- A connection's recent activity, and when it is too slow. Times are milliseconds of one clock; the idle timeout is in seconds.
 use Rattle.std.specs.Prelude.{ℕ, ◌+◌, ◌-◌, ◌*◌, ◌^◌, Bool, false, cond, ◌&&◌, ◌||◌, nat_lt, nat_le, min}
-use Rattle.hls_event_loop.specs.declared.activity.ConnectionStage.TheVariants.{Idle, Head, Ingesting, Discarding, Waiting, Writing, Responding, Lingering}
+use Rattle.hls_event_loop.specs.declared.activity.ConnectionStage.TheVariants.{Idle, Head, Ingesting, Held, Discarding, Waiting, Writing, Responding, Lingering}
 use Rattle.hls_event_loop.specs.declared.activity.{ConnectionStage.ConnectionStage, Activity.Activity}
 
 -- the activity of a stage that begins now
@@ -24,12 +24,14 @@ abbrev pub is_slow : ℕ → Activity → ℕ → Bool
 is_slow idle_timeout_s activity now = is_measured idle_timeout_s activity now && nat_lt activity.bytes (now - activity.since_ms)
 
 -- the connection is too slow. Idle peers and encoders time out by silence alone; a head by its time, ten seconds or the idle timeout
--- if that is less; a discarded body and a response by their rate too. A response that waits or is made never does. Input after the
+-- if that is less; a discarded body and a response by their rate too. A body that is held never does, nor a
+-- response that waits or is made. Input after the
 -- last response is read for two seconds, or until a quarter of a second of silence
 abbrev pub is_timed_out_in : ConnectionStage → ℕ → Activity → ℕ → Bool
 is_timed_out_in Idle idle_timeout_s activity now = is_silent idle_timeout_s activity now
 is_timed_out_in Head idle_timeout_s activity now = nat_le (min (idle_timeout_s * 1000) 10000) (now - activity.since_ms)
 is_timed_out_in Ingesting idle_timeout_s activity now = is_silent idle_timeout_s activity now
+is_timed_out_in Held idle_timeout_s activity now = false
 is_timed_out_in Discarding idle_timeout_s activity now = is_silent idle_timeout_s activity now || is_slow idle_timeout_s activity now
 is_timed_out_in Waiting idle_timeout_s activity now = false
 is_timed_out_in Writing idle_timeout_s activity now = false
@@ -50,6 +52,7 @@ abbrev pub with_restarted_count_in : ConnectionStage → ℕ → ℕ → Activit
 with_restarted_count_in Idle idle_timeout_s now activity = activity
 with_restarted_count_in Head idle_timeout_s now activity = activity
 with_restarted_count_in Ingesting idle_timeout_s now activity = activity
+with_restarted_count_in Held idle_timeout_s now activity = activity
 with_restarted_count_in Discarding idle_timeout_s now activity = with_zeroed_bytes idle_timeout_s now activity
 with_restarted_count_in Waiting idle_timeout_s now activity = activity
 with_restarted_count_in Writing idle_timeout_s now activity = activity

@@ -21,6 +21,8 @@ pub enum ConnectionStage {
     Head,
     /// It receives an encoder's body.
     Ingesting,
+    /// Its encoder's body isn't read for a while. The peer isn't waited for.
+    Held,
     /// It receives a body that is discarded.
     Discarding,
     /// Its response waits for a change of the channel. The peer isn't waited for.
@@ -100,8 +102,8 @@ impl Activity {
 
     /// Whether the connection is too slow. A request head has ten seconds, or the idle timeout if that is less. In the other
     /// stages, silence for the idle timeout is too long; so are fewer than 1000 bytes per second over that time for a response or
-    /// a discarded body. An encoder's body may be as slow as its encoder. While a response waits or is made, the connection is
-    /// never too slow.
+    /// a discarded body. An encoder's body may be as slow as its encoder. While a body is held, and while a response waits or is made,
+    /// the connection is never too slow.
     pub fn is_timed_out(self, idle_timeout_s: u64, now: u64) -> bool
         requires { idle_timeout_s ≤ 3600 }
         ensures { result ≡ is_timed_out idle_timeout_s self now }
@@ -113,7 +115,7 @@ impl Activity {
             ConnectionStage::Ingesting => self.is_silent(idle_timeout_s, now),
             ConnectionStage::Discarding => self.is_silent(idle_timeout_s, now)
                 || self.is_slow(idle_timeout_s, now),
-            ConnectionStage::Waiting | ConnectionStage::Writing => false,
+            ConnectionStage::Held | ConnectionStage::Waiting | ConnectionStage::Writing => false,
             ConnectionStage::Responding => self.is_silent(idle_timeout_s, now)
                 || self.is_slow(idle_timeout_s, now),
             ConnectionStage::Lingering => {

@@ -1,6 +1,6 @@
 //! The handler of a worker's connections.
 
-ghost use Rattle.std.specs.Prelude.{◌≡◌, ◌≤◌, ◌<◌, ◌↔◌, ℕ, List, Option, length, take, drop, IfOk, IsFalse, IsTrue, OnErr};
+ghost use Rattle.std.specs.Prelude.{◌≡◌, ◌⊎◌, ◌≤◌, ◌<◌, ◌↔◌, ℕ, List, Option, length, take, drop, IfOk, IsFalse, IsTrue, OnErr};
 ghost use Rattle.std.specs.Io.KnownBytes.{Consumes, IsAtEnd, Keeps};
 ghost use Rattle.hls_event_loop.specs.Traffic.{Traffic, followed_by, no_traffic, received_bytes, sent_bytes};
 ghost use Rattle.hls_event_loop.specs.declared.{handler.ConnectionEnd.ConnectionEnd, activity.ConnectionStage.ConnectionStage};
@@ -45,7 +45,7 @@ pub trait Handler {
     /// The most steps before that.
     ghost max_steps: { Self.Connection → ℕ };
 
-    /// The connection's response waits for a change of the channel, or for a deadline.
+    /// The connection's response waits for a change of the channel, or for a deadline; or its body is held.
     ghost waits: { Self.Connection → Type 0 };
 
     /// How the connection ended by itself, if it did.
@@ -119,7 +119,7 @@ pub trait Handler {
     /// The connection's stage.
     fn stage(&self, connection: &Self::Connection) -> ConnectionStage
         ensures stage { has_stage connection.now result }
-        ensures waiting { waits connection.now → result ≡ ConnectionStage.Waiting };
+        ensures waiting { waits connection.now → (result ≡ ConnectionStage.Waiting) ⊎ (result ≡ ConnectionStage.Held) };
 
     /// Whether it is between two parts of a request without an end of its own, and nothing of the next one was received. A worker that is
     /// to end closes it then.

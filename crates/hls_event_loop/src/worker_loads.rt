@@ -1,6 +1,7 @@
 //! What the workers of one listener know of each other, and how other threads wake them.
 
 use crate::waker::{WakeReason, WakeReasons, WorkerWaker};
+use crate::yielding::is_crowded;
 use mio::{Poll, Token};
 use std::alloc::Global;
 use std::io;
@@ -26,6 +27,8 @@ struct WorkerLoad {
     open_connections: AtomicU64,
     /// The rank of the connection that it would evict first, as it found last.
     rank: AtomicU64,
+    /// How many of its connections are in the middle of a body, as it counted last.
+    bodies: AtomicU64,
     /// Whether a connection of its may wait for a change.
     waits: AtomicBool,
 }
@@ -38,6 +41,7 @@ impl WorkerLoad {
             open: AtomicBool::new(false),
             open_connections: AtomicU64::new(0),
             rank: AtomicU64::new(NO_RANK),
+            bodies: AtomicU64::new(0),
             waits: AtomicBool::new(false),
         })
     }
@@ -248,6 +252,22 @@ impl WorkerLoads {
         if let Some(worker_load) = self.loads.get(index) {
             worker_load.rank.store(rank, Ordering::SeqCst);
         }
+    }
+
+    /// Notes how many of a worker's connections are in the middle of a body.
+    pub(crate) fn publish_bodies(&self, index: usize, bodies: u64) {
+        if let Some(worker_load) = self.loads.get(index) {
+            worker_load.bodies.store(bodies, Ordering::SeqCst);
+        }
+    }
+
+    /// Whether bodies take more than nine tenths of the places, as the workers counted last.
+    pub(crate) fn is_crowded(&self) -> bool {
+        let mut bodies: u64 = 0;
+        for worker_load in &self.loads {
+            bodies = bodies.saturating_add(worker_load.bodies.load(Ordering::SeqCst));
+        }
+        is_crowded(bodies, self.most)
     }
 
     /// The other worker whose connection is to be evicted first, by the ranks noted last; none if this worker's own is first.

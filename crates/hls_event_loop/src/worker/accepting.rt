@@ -3,6 +3,7 @@
 ghost use Rattle.std.specs.Prelude.{◌≡◌, IfNone, IfSome, Some};
 ghost use Rattle.slab.specs.Slab.{Updates};
 ghost use Rattle.hls_event_loop.specs.Validity.{AllValid};
+ghost use Rattle.hls_event_loop.specs.Yielding.{yield_rank};
 
 use super::Worker;
 use crate::activity::{Activity, ConnectionStage};
@@ -10,7 +11,7 @@ use crate::backlog::Backlog;
 use crate::handler::Handler;
 use crate::slot::Slot;
 use crate::worker_loads::{NO_RANK, UNKNOWN_RANK};
-use crate::yielding::choose_yielding;
+use crate::yielding::{choose_yielding, is_in_body};
 use mio::Token;
 use mio::net::TcpStream;
 use slab::Slab;
@@ -32,11 +33,17 @@ const ACCEPT_PAUSE_MS: u64 = 10;
 /// A search for a connection to evict adds a millisecond of pause for this many connections.
 const SCANNED_PER_MS: u64 = 256;
 
-/// The order of eviction, least first: the longest idle, then the youngest head.
-fn yield_rank(activity: Activity) -> u64 {
+/// Bodies with this many bytes or more have one rank. It is less than the rank of an idle connection.
+const MOST_RANKED_BYTES: u64 = 1023;
+
+/// The order of eviction, least first: the body with the fewest bytes, the longest idle, then the youngest head.
+fn yield_rank(activity: Activity) -> u64
+    ensures { result ≡ yield_rank activity }
+{
     match activity.stage {
-        ConnectionStage::Idle => activity.moved_ms,
-        _ => u64::MAX - activity.since_ms,
+        ConnectionStage::Idle => activity.moved_ms.saturating_add(MOST_RANKED_BYTES + 2),
+        ConnectionStage::Head => u64::MAX - activity.since_ms,
+        _ => activity.bytes.min(MOST_RANKED_BYTES) + 1,
     }
 }
 
@@ -115,11 +122,24 @@ impl<'a, H: Handler + Drop> Worker<'a, H> {
         }
     }
 
+    /// Publishes how many of its connections are in the middle of a body.
+    fn publish_bodies(&self) {
+        let mut bodies: u64 = 0;
+        for (_, slot) in self.slots.iter() {
+            if is_in_body(slot.activity) {
+                bodies = bodies.saturating_add(1);
+            }
+        }
+        self.worker_loads.publish_bodies(self.index, bodies);
+    }
+
     /// Which of its connections it would evict first.
     fn find_yielding(&self) -> Option<(usize, Activity)> {
+        self.publish_bodies();
+        let crowded = self.worker_loads.is_crowded();
         let mut found: Option<(usize, Activity)> = None;
         for (key, slot) in self.slots.iter() {
-            found = choose_yielding(found, key, slot.activity);
+            found = choose_yielding(found, key, slot.activity, crowded);
         }
         found
     }
@@ -242,7 +262,8 @@ impl<'a, H: Handler + Drop> Worker<'a, H> {
     }
 
     /// Accepts a connection when all places are in use. The longest idle connection of all workers is evicted for it, or the youngest
-    /// head. If that is another worker's, this one defers for a while, and then evicts its own. It pauses if none can be evicted.
+    /// head; before these, while bodies take more than nine tenths of the places, the body with the fewest bytes. If that is
+    /// another worker's, this one defers for a while, and then evicts its own. It pauses if none can be evicted.
     fn accept_full(&mut self, waited: bool)
         requires valid { AllValid H.valid self.old.handler self.old.slots }
         ensures valid { AllValid H.valid self.new.handler self.new.slots }
@@ -277,7 +298,7 @@ impl<'a, H: Handler + Drop> Worker<'a, H> {
         }
     }
 
-    /// Publishes its rank when all places are in use. Until then the rank is unknown.
+    /// Publishes its rank when all places are in use, and how many bodies it receives. Until then the rank is unknown.
     pub(super) fn renew_rank(&self) {
         if self.backlog == Backlog::Stopped {
             return;
@@ -285,6 +306,7 @@ impl<'a, H: Handler + Drop> Worker<'a, H> {
         if self.worker_loads.is_full() {
             self.publish_rank();
         } else {
+            self.publish_bodies();
             self.worker_loads.publish_rank(self.index, UNKNOWN_RANK);
         }
     }
