@@ -4,11 +4,16 @@ use Rattle.hls_codecs.specs.Boxes.{byte_at, bits_at}
 use Rattle.hls_codecs.specs.declared.codec.Mp4aConfig.TheVariants.{Mpeg4, Other}
 use Rattle.hls_codecs.specs.declared.track_format.Channels.{Channels}
 use Rattle.hls_codecs.specs.declared.track_format.Channels.TheVariants.{Plain, JointObjects}
+use Rattle.hls_codecs.specs.declared.track_format.AudioFrames.{AudioFrames}
 use Rattle.hls_codecs.specs.declared.audio.Mp4aEntry.{Mp4aEntry}
 
 -- a number of channels, unless it is 0
 abbrev pub some_channels : ℕ → Option Channels
 some_channels n = if n == 0 then None else Some (Plain n)
+
+-- frames of this many samples, unless the sampling rate is 0
+abbrev pub some_frames : ℕ → ℕ → Option AudioFrames
+some_frames samples rate = if rate == 0 then None else Some (record { samples = samples; rate = rate })
 
 -- The length of a descriptor and the bytes after it (ISO/IEC 14496-1 8.3.3). Each of at most `most` bytes has seven bits of
 -- the length, and its highest bit says that another byte follows.
@@ -110,11 +115,48 @@ configured_channels n =
 unfoldable pub aac_channels : List ℕ → Option Channels
 aac_channels config = if audio_type config == 29 then Some (Plain 2) else some_channels (configured_channels (bits_at 4 (channels_bit config) config))
 
+-- the sampling rate of an index; 0 if it is reserved (ISO/IEC 14496-3 table 1.18)
+abbrev pub rate_of_index : ℕ → ℕ
+rate_of_index n =
+    if n == 0 then 96000 else (if n == 1 then 88200 else (if n == 2 then 64000 else (if n == 3 then 48000
+    else (if n == 4 then 44100 else (if n == 5 then 32000 else (if n == 6 then 24000 else (if n == 7 then 22050
+    else (if n == 8 then 16000 else (if n == 9 then 12000 else (if n == 10 then 11025 else (if n == 11 then 8000
+    else (if n == 12 then 7350 else 0))))))))))))
+
+-- the sampling rate at this bit
+abbrev pub rate_at : ℕ → List ℕ → ℕ
+rate_at at config = if bits_at 4 at config == 15 then bits_at 24 (at + 4) config else rate_of_index (bits_at 4 at config)
+
+-- whether the object type is SBR or PS: then a sampling frequency and the object type of the core follow the channels
+abbrev pub is_hierarchical : List ℕ → Bool
+is_hierarchical config = aot_at 0 config == 5 || aot_at 0 config == 29
+
+-- the bit at which the object type of the core begins
+unfoldable pub core_bit : List ℕ → ℕ
+core_bit config = if is_hierarchical config then channels_bit config + 4 + rate_width (channels_bit config + 4) config else 0
+
+-- the object type of the core: AAC itself, without SBR
+abbrev pub core_type : List ℕ → ℕ
+core_type config = aot_at (core_bit config) config
+
+-- the bit of `frameLengthFlag`, the first one of the core's GASpecificConfig (ISO/IEC 14496-3 4.4.1)
+unfoldable pub frame_bit : List ℕ → ℕ
+frame_bit config = if is_hierarchical config then core_bit config + aot_width (core_bit config) config else channels_bit config + 4
+
+-- the samples of a frame of the core
+abbrev pub frame_samples : List ℕ → ℕ
+frame_samples config = if bits_at 1 (frame_bit config) config == 1 then 960 else 1024
+
+-- the frames of AAC Main, LC, SSR and LTP, and of SBR over them, which doubles both the samples and the rate
+unfoldable pub aac_frames : List ℕ → Option AudioFrames
+aac_frames config =
+    if core_type config == 0 || nat_lt 4 (core_type config) then None else some_frames (frame_samples config) (rate_at (aot_width 0 config) config)
+
 -- what an AudioSpecificConfig says, if it has at least the type, the frequency and the channels
 unfoldable pub mpeg4_entry : List ℕ → Option Mp4aEntry
 mpeg4_entry config =
     if not (reaches (channels_bit config + 4) config) || aot_at 0 config == 0 then None
-    else Some (record { config = Mpeg4 (audio_type config); channels = aac_channels config })
+    else Some (record { config = Mpeg4 (audio_type config); channels = aac_channels config; frames = aac_frames config })
 
 -- the channels of other audio: those that the entry says for MP3 (object types 0x69 and 0x6b), else none
 abbrev pub other_channels : ℕ → Option Channels → Option Channels
@@ -125,7 +167,7 @@ unfoldable pub mp4a_from : Option Channels → List ℕ → Option Mp4aEntry
 mp4a_from entry_channels config =
     if nat_lt (length config) 13 || byte_at 0 config == 0 then None
     else (if byte_at 0 config == 0x40 then option_and_then mpeg4_entry (descriptor_of 5 (drop 13 config))
-    else Some (record { config = Other (byte_at 0 config); channels = other_channels (byte_at 0 config) entry_channels }))
+    else Some (record { config = Other (byte_at 0 config); channels = other_channels (byte_at 0 config) entry_channels; frames = None }))
 
 -- what an `mp4a` entry says, from its `esds` box
 unfoldable pub mp4a_entry : Option Channels → List ℕ → Option Mp4aEntry
@@ -138,6 +180,22 @@ acmod_channels n = if n == 0 then 2 else (if nat_lt n 3 then n else (if nat_lt n
 -- the channels of AC-3 by its `dac3` (ETSI TS 102 366 F.4), which has `acmod` at bit 10 and `lfeon` at bit 13
 unfoldable pub ac3_channels : List ℕ → Option Channels
 ac3_channels dac3 = if nat_lt (length dac3) 3 then None else Some (Plain (acmod_channels (bits_at 3 10 dac3) + bits_at 1 13 dac3))
+
+-- the sampling rate of an `fscod` (ETSI TS 102 366 4.4.1.3); 0 if it is reserved
+abbrev pub dolby_rate : ℕ → ℕ
+dolby_rate n = if n == 0 then 48000 else (if n == 1 then 44100 else (if n == 2 then 32000 else 0))
+
+-- a sample of AC-3 or Enhanced AC-3 has six blocks of 256 samples (ETSI TS 102 366 F.2, F.5)
+abbrev pub dolby_frames : ℕ → Option AudioFrames
+dolby_frames code = some_frames 1536 (dolby_rate code)
+
+-- the frames of AC-3 by its `dac3`, which begins with `fscod`
+unfoldable pub ac3_frames : List ℕ → Option AudioFrames
+ac3_frames dac3 = if nat_lt (length dac3) 3 then None else dolby_frames (bits_at 2 0 dac3)
+
+-- the frames of Enhanced AC-3 by its `dec3`, whose first substream begins at bit 16 with `fscod`
+unfoldable pub ec3_frames : List ℕ → Option AudioFrames
+ec3_frames dec3 = if nat_lt (length dec3) 5 then None else dolby_frames (bits_at 2 16 dec3)
 
 -- the channels that the dependent substreams of Enhanced AC-3 add (ETSI TS 102 366 table E.1), some of them pairs
 unfoldable pub location_channels : List ℕ → ℕ

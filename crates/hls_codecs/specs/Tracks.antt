@@ -9,7 +9,7 @@ use Rattle.hls_media_laws.specs.Kinds.{trak_type, tkhd_type, mdia_type, mdhd_typ
 use Rattle.hls_codecs.specs.Kinds.{minf_type, stbl_type, stsd_type, sinf_type, frma_type, pasp_type, colr_type, nclx_type, nclc_type, encv_type, enca_type, avc1_type, avc3_type, avcc_type, hvc1_type, hev1_type, hvcc_type, av01_type, av1c_type, vp09_type, vpcc_type, mp4a_type, esds_type, wave_type, ac3_type, dac3_type, ec3_type, dec3_type, opus_type, dops_type, flac_type, dfla_type, alac_type}
 use Rattle.hls_codecs.specs.Boxes.{box_in, byte_at}
 use Rattle.hls_codecs.specs.Codecs.{half_at, usual_colours, avc_config, hevc_config, av1_config, vp9_config}
-use Rattle.hls_codecs.specs.Audio.{some_channels, mp4a_entry, ac3_channels, ec3_channels, opus_channels, flac_channels, alac_channels}
+use Rattle.hls_codecs.specs.Audio.{some_channels, mp4a_entry, ac3_channels, ac3_frames, ec3_channels, ec3_frames, opus_channels, flac_channels, alac_channels}
 use Rattle.hls_codecs.specs.declared.codec.ParameterSets.{ParameterSets}
 use Rattle.hls_codecs.specs.declared.codec.ParameterSets.TheVariants.{OutOfBand, InBand}
 use Rattle.hls_codecs.specs.declared.codec.AvcConfig.{AvcConfig}
@@ -24,6 +24,7 @@ use Rattle.hls_codecs.specs.declared.track_format.DisplaySize.{DisplaySize}
 use Rattle.hls_codecs.specs.declared.track_format.VideoRange.{VideoRange}
 use Rattle.hls_codecs.specs.declared.track_format.VideoRange.TheVariants.{Sdr, Hlg, Pq}
 use Rattle.hls_codecs.specs.declared.track_format.Channels.{Channels}
+use Rattle.hls_codecs.specs.declared.track_format.AudioFrames.{AudioFrames}
 use Rattle.hls_codecs.specs.declared.track_format.TrackKind.TheVariants.{Video, Audio}
 use Rattle.hls_codecs.specs.declared.track_format.TrackFormat.{TrackFormat}
 use Rattle.hls_codecs.specs.declared.video.VideoEntry.{VideoEntry}
@@ -138,9 +139,21 @@ video_entry format boxes =
     else (if format == av01_type then av1_entry boxes
     else (if format == vp09_type then vp9_entry boxes else None)))))
 
--- the codec of an audio entry and its channels
+-- the codec of an audio entry, its channels and its frames
+abbrev pub framed_audio : Codec → Option Channels → Option AudioFrames → AudioEntry
+framed_audio codec channels frames = record { codec = codec; channels = channels; frames = frames }
+
+-- the codec of an audio entry and its channels, if it doesn't say how long its frames are
 abbrev pub audio_from : Codec → Option Channels → AudioEntry
-audio_from codec channels = record { codec = codec; channels = channels }
+audio_from codec channels = framed_audio codec channels None
+
+-- AC-3, from the boxes in its entry
+abbrev pub ac3_audio : List ℕ → AudioEntry
+ac3_audio boxes = framed_audio codecs.Ac3 (option_and_then ac3_channels (box_in dac3_type 0 boxes)) (option_and_then ac3_frames (box_in dac3_type 0 boxes))
+
+-- Enhanced AC-3, from the boxes in its entry
+abbrev pub ec3_audio : List ℕ → AudioEntry
+ec3_audio boxes = framed_audio codecs.Ec3 (option_and_then ec3_channels (box_in dec3_type 0 boxes)) (option_and_then ec3_frames (box_in dec3_type 0 boxes))
 
 -- the `esds` among the boxes of an entry; a QuickTime file has it in `wave`
 abbrev pub esds_in : List ℕ → Option (List ℕ)
@@ -149,7 +162,7 @@ esds_in boxes = option_or (box_in esds_type 0 boxes) (option_and_then (box_in es
 -- the codec and the channels of an `mp4a` entry, which itself says a number of channels, from the boxes in it
 unfoldable pub mp4a_audio : Option Channels → List ℕ → Option AudioEntry
 mp4a_audio channels boxes =
-    option_map (λ (e : Mp4aEntry). audio_from (codecs.Mp4a e.config) e.channels) (option_and_then (mp4a_entry channels) (esds_in boxes))
+    option_map (λ (e : Mp4aEntry). framed_audio (codecs.Mp4a e.config) e.channels e.frames) (option_and_then (mp4a_entry channels) (esds_in boxes))
 
 -- the codec and the channels of an Opus entry, from the boxes in it
 unfoldable pub opus_audio : List ℕ → Option AudioEntry
@@ -159,8 +172,8 @@ opus_audio boxes = option_map (audio_from codecs.Opus) (option_and_then opus_cha
 unfoldable pub audio_entry : ℕ → Option Channels → List ℕ → Option AudioEntry
 audio_entry format channels boxes =
     if format == mp4a_type then mp4a_audio channels boxes
-    else (if format == ac3_type then Some (audio_from codecs.Ac3 (option_and_then ac3_channels (box_in dac3_type 0 boxes)))
-    else (if format == ec3_type then Some (audio_from codecs.Ec3 (option_and_then ec3_channels (box_in dec3_type 0 boxes)))
+    else (if format == ac3_type then Some (ac3_audio boxes)
+    else (if format == ec3_type then Some (ec3_audio boxes)
     else (if format == opus_type then opus_audio boxes
     else (if format == flac_type then Some (audio_from codecs.Flac (option_and_then flac_channels (box_in dfla_type 0 boxes)))
     else (if format == alac_type then Some (audio_from codecs.Alac (option_and_then alac_channels (box_in alac_type 0 boxes))) else None)))))
@@ -188,7 +201,7 @@ format_behind protected kind boxes = if kind == protected then original_format b
 
 -- the format of a track with this video entry
 abbrev pub video_format : Bool → List ℕ → List ℕ → VideoEntry → TrackFormat
-video_format turned entry boxes v = record { codec = v.codec; kind = Video (record { size = display_size turned entry boxes; range = v.range }); language = None; encrypted = false }
+video_format turned entry boxes v = record { codec = v.codec; kind = Video (record { size = display_size turned entry boxes; range = v.range }); frames = None; language = None; encrypted = false }
 
 -- the format of a video track, from its entry and the boxes in it
 abbrev pub video_of_boxes : Bool → ℕ → List ℕ → List ℕ → Option TrackFormat
@@ -201,7 +214,7 @@ video_at turned kind entry = if nat_lt (length entry) 78 then None else video_of
 
 -- the format of a track with this audio entry
 abbrev pub audio_format : AudioEntry → TrackFormat
-audio_format a = record { codec = a.codec; kind = Audio a.channels; language = None; encrypted = false }
+audio_format a = record { codec = a.codec; kind = Audio a.channels; frames = a.frames; language = None; encrypted = false }
 
 -- the format of an audio track, from the boxes in its entry
 abbrev pub audio_of_boxes : ℕ → Option Channels → List ℕ → Option TrackFormat
@@ -245,7 +258,7 @@ language_in (Some mdhd) =
 
 -- the format with this language, and whether it is encrypted
 abbrev pub with_language : Option ℕ → Bool → TrackFormat → TrackFormat
-with_language language encrypted f = record { codec = f.codec; kind = f.kind; language = language; encrypted = encrypted }
+with_language language encrypted f = record { codec = f.codec; kind = f.kind; frames = f.frames; language = language; encrypted = encrypted }
 
 -- the format by a sample entry's type and content: that of a video entry, or else of an audio entry
 abbrev pub entry_format : Bool → ℕ → ℕ × List ℕ → Option TrackFormat

@@ -2,12 +2,12 @@
 
 ghost use Rattle.std.specs.Prelude.{◌≡◌, ◌<◌, ◌≤◌, ◌^◌, ℕ, List, option_map};
 ghost use Rattle.std.specs.Borrow.{Bor};
-ghost use Rattle.hls_codecs.specs.Audio.{reaches, descriptor_length, descriptor_of, inner_offset, decoder_config, aot_width, aot_at, rate_width, channels_bit, sync_bit, signals_sbr, signals_ps, audio_type, configured_channels, aac_channels, mpeg4_entry, other_channels, mp4a_from, mp4a_entry};
+ghost use Rattle.hls_codecs.specs.Audio.{reaches, descriptor_length, descriptor_of, inner_offset, decoder_config, aot_width, aot_at, rate_width, channels_bit, sync_bit, signals_sbr, signals_ps, audio_type, configured_channels, aac_channels, rate_of_index, rate_at, is_hierarchical, core_bit, core_type, frame_bit, frame_samples, aac_frames, mpeg4_entry, other_channels, mp4a_from, mp4a_entry};
 
-use crate::audio::{Mp4aEntry, some_channels};
+use crate::audio::{Mp4aEntry, some_channels, some_frames};
 use crate::boxes::{bits_at, byte_or_zero, bytes_from};
 use crate::codec::Mp4aConfig;
-use crate::track_format::Channels;
+use crate::track_format::{AudioFrames, Channels};
 
 /// The tags of the descriptors that are read.
 const ES_DESCRIPTOR: u8 = 3;
@@ -211,6 +211,103 @@ fn aac_channels(config: &[u8]) -> Option<Channels>
     some_channels(configured_channels(bits_at(config, 4, channels_bit(config))))
 }
 
+/// The sampling rate of a `samplingFrequencyIndex`; 0 if it is reserved (ISO/IEC 14496-3 table 1.18).
+fn rate_of_index(index: u32) -> u32
+    ensures { result ≡ rate_of_index index }
+{
+    match index {
+        0 => 96000,
+        1 => 88200,
+        2 => 64000,
+        3 => 48000,
+        4 => 44100,
+        5 => 32000,
+        6 => 24000,
+        7 => 22050,
+        8 => 16000,
+        9 => 12000,
+        10 => 11025,
+        11 => 8000,
+        12 => 7350,
+        _ => 0,
+    }
+}
+
+/// The sampling rate at a bit.
+fn rate_at(config: &[u8], at: usize) -> u32
+    requires { at < 2 ^ 16 }
+    ensures { result ≡ rate_at at config.now }
+{
+    let index = bits_at(config, 4, at);
+    if index == 15 {
+        return bits_at(config, 24, at + 4);
+    }
+    rate_of_index(index)
+}
+
+/// Whether the object type is SBR or PS, and that of the core follows.
+fn is_hierarchical(config: &[u8]) -> bool
+    ensures { result ≡ is_hierarchical config.now }
+{
+    matches!(aot_at(config, 0), 5 | 29)
+}
+
+/// Where the object type of the core is.
+#[tactic(auto, unfolding(crate::specs::Audio::core_bit))]
+fn core_bit(config: &[u8]) -> usize
+    ensures value { result ≡ core_bit config.now }
+    ensures bound { result ≤ 71 }
+{
+    if !is_hierarchical(config) {
+        return 0;
+    }
+    let at = channels_bit(config) + 4;
+    at + rate_width(config, at)
+}
+
+/// The object type of the core: AAC itself, without SBR.
+fn core_type(config: &[u8]) -> u8
+    ensures { result ≡ core_type config.now }
+{
+    aot_at(config, core_bit(config))
+}
+
+/// Where `frameLengthFlag` is.
+#[tactic(auto, unfolding(crate::specs::Audio::frame_bit))]
+fn frame_bit(config: &[u8]) -> usize
+    ensures value { result ≡ frame_bit config.now }
+    ensures bound { result ≤ 82 }
+{
+    if !is_hierarchical(config) {
+        return channels_bit(config) + 4;
+    }
+    let at = core_bit(config);
+    at + aot_width(config, at)
+}
+
+/// The samples of a frame of the core.
+fn frame_samples(config: &[u8]) -> u16
+    ensures { result ≡ frame_samples config.now }
+{
+    if bits_at(config, 1, frame_bit(config)) == 1 {
+        960
+    } else {
+        1024
+    }
+}
+
+/// The frames of AAC Main, LC, SSR and LTP, and of SBR over them.
+#[tactic(auto, unfolding(crate::specs::Audio::aac_frames))]
+fn aac_frames(config: &[u8]) -> Option<AudioFrames>
+    ensures { result ≡ aac_frames config.now }
+{
+    let core = core_type(config);
+    if core == 0 || core > 4 {
+        return None;
+    }
+    some_frames(frame_samples(config), rate_at(config, aot_width(config, 0)))
+}
+
 /// Reads an AudioSpecificConfig.
 #[tactic(auto, unfolding(crate::specs::Audio::mpeg4_entry))]
 fn read_mpeg4(config: &[u8]) -> Option<Mp4aEntry>
@@ -222,6 +319,7 @@ fn read_mpeg4(config: &[u8]) -> Option<Mp4aEntry>
     Some(Mp4aEntry {
         config: Mp4aConfig::Mpeg4(audio_type(config)),
         channels: aac_channels(config),
+        frames: aac_frames(config),
     })
 }
 
@@ -246,6 +344,7 @@ fn read_mp4a_config(entry_channels: Option<Channels>, config: &[u8]) -> Option<M
         return Some(Mp4aEntry {
             config: Mp4aConfig::Other(config[0]),
             channels: other_channels(config[0], entry_channels),
+            frames: None,
         });
     }
     let Some(specific) = read_descriptor(&config[13..], DECODER_SPECIFIC_INFO) else {

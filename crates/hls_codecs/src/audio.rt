@@ -1,17 +1,28 @@
 //! Reads the configuration boxes of audio codecs: their channels.
 
 ghost use Rattle.std.specs.Prelude.{◌≡◌, ◌<◌, ◌≤◌};
-ghost use Rattle.hls_codecs.specs.Audio.{some_channels, acmod_channels, ac3_channels, location_channels, has_dependents, substream_end, ec3_bed_channels, has_joint_objects, ec3_channels, opus_channels, flac_channels, alac_channels};
+ghost use Rattle.hls_codecs.specs.Audio.{some_frames, dolby_frames, dolby_rate, ac3_frames, ec3_frames, some_channels, acmod_channels, ac3_channels, location_channels, has_dependents, substream_end, ec3_bed_channels, has_joint_objects, ec3_channels, opus_channels, flac_channels, alac_channels};
 
 use crate::boxes::bits_at;
 use crate::codec::Mp4aConfig;
-use crate::track_format::Channels;
+use crate::track_format::{AudioFrames, Channels};
 
-/// What an `mp4a` entry says: its codec, and its channels if they are known.
+/// What an `mp4a` entry says: its codec, and its channels and frames if they are known.
 #[derive(Clone, Copy)]
 pub struct Mp4aEntry {
     pub config: Mp4aConfig,
     pub channels: Option<Channels>,
+    pub frames: Option<AudioFrames>,
+}
+
+/// Frames of this many samples, unless the sampling rate is 0.
+pub fn some_frames(samples: u16, rate: u32) -> Option<AudioFrames>
+    ensures { result ≡ some_frames samples rate }
+{
+    if rate == 0 {
+        return None;
+    }
+    Some(AudioFrames { samples, rate })
 }
 
 /// This many channels, unless it is 0.
@@ -48,6 +59,47 @@ pub fn read_ac3_channels(content: &[u8]) -> Option<Channels>
         return None;
     }
     Some(Channels::Plain(acmod_channels(bits_at(content, 3, 10)) + bits_at(content, 1, 13) as u8))
+}
+
+/// The sampling rate of an `fscod`; 0 if it is reserved.
+fn dolby_rate(code: u32) -> u32
+    ensures { result ≡ dolby_rate code }
+{
+    match code {
+        0 => 48000,
+        1 => 44100,
+        2 => 32000,
+        _ => 0,
+    }
+}
+
+/// The frames of AC-3 in a `dac3` box, and of Enhanced AC-3 in a `dec3` box: six blocks of 256 samples.
+fn dolby_frames(code: u32) -> Option<AudioFrames>
+    ensures { result ≡ dolby_frames code }
+{
+    some_frames(1536, dolby_rate(code))
+}
+
+/// The frames of AC-3, by the content of a `dac3` box.
+#[tactic(auto, unfolding(crate::specs::Audio::ac3_frames))]
+pub fn read_ac3_frames(content: &[u8]) -> Option<AudioFrames>
+    ensures { result ≡ ac3_frames content.now }
+{
+    if content.len() < 3 {
+        return None;
+    }
+    dolby_frames(bits_at(content, 2, 0))
+}
+
+/// The frames of Enhanced AC-3, by the content of a `dec3` box.
+#[tactic(auto, unfolding(crate::specs::Audio::ec3_frames))]
+pub fn read_ec3_frames(content: &[u8]) -> Option<AudioFrames>
+    ensures { result ≡ ec3_frames content.now }
+{
+    if content.len() < 5 {
+        return None;
+    }
+    dolby_frames(bits_at(content, 2, 16))
 }
 
 /// The channels that the dependent substreams of Enhanced AC-3 add.

@@ -38,6 +38,15 @@ pub struct VideoFormat {
     pub range: Option<VideoRange>,
 }
 
+/// The frames of an audio codec: each decodes to the same number of samples.
+#[derive(Clone, Copy)]
+pub struct AudioFrames {
+    /// The samples of a frame in one channel.
+    pub samples: u16,
+    /// The sampling rate in Hz, above 0.
+    pub rate: u32,
+}
+
 /// What is particular to a kind of track.
 #[derive(Clone, Copy)]
 pub enum TrackKind {
@@ -51,6 +60,8 @@ pub enum TrackKind {
 pub struct TrackFormat {
     pub codec: Codec,
     pub kind: TrackKind,
+    /// The frames of an audio codec, if the sample entry says how long they are.
+    pub frames: Option<AudioFrames>,
     /// The language as `mdhd` packs it, three times five bits (ISO/IEC 14496-12 8.4.2); None if there is none or it isn't determined.
     pub language: Option<u16>,
     /// Whether the samples are encrypted (`encv`, `enca`).

@@ -57,6 +57,7 @@ fn video_of_boxes(turned: bool, kind: u32, entry: &[u8], boxes: &[u8]) -> Option
             size: display_size(turned, entry, boxes),
             range: video.range,
         }),
+        frames: None,
         language: None,
         encrypted: false,
     })
@@ -80,6 +81,7 @@ fn audio_of_boxes(kind: u32, channels: Option<Channels>, boxes: &[u8]) -> Option
     Some(TrackFormat {
         codec: audio.codec,
         kind: TrackKind::Audio(audio.channels),
+        frames: audio.frames,
         language: None,
         encrypted: false,
     })
@@ -205,6 +207,7 @@ fn read_stsd(turned: bool, language: Option<u16>, stsd: &[u8]) -> Option<TrackFo
     Some(TrackFormat {
         codec: format.codec,
         kind: format.kind,
+        frames: format.frames,
         language,
         encrypted: is_encrypted(kind),
     })
