@@ -11,7 +11,7 @@ use Rattle.hls_mend_laws.specs.declared.treatment.Treatment.TheVariants as treat
 use Rattle.hls_mend_laws.specs.Treatments.{treatment_of}
 use Rattle.hls_mend.specs.declared.mended.ReadUnit.{ReadUnit}
 use Rattle.hls_mend.specs.Spans.{first_duration}
-use Rattle.hls_mend.specs.MendedUnits.{as_sent, treatment_by, unit_treatment, mended_as, mended_by, mended_unit, limits_of}
+use Rattle.hls_mend.specs.MendedUnits.{as_sent, end_of, treatment_by, unit_treatment, mended_as, mended_by, mended_unit, limits_of}
 use Rattle.hls_mend.specs.Contiguous.{ContiguousIsKept}
 
 -- a unit that starts at the end of its rendition is kept, whatever its first sample is
@@ -28,13 +28,24 @@ kept-unit : (init : InitData) (rec : RecordingData) (limits : MendLimits) (u : R
 unfolding unit_treatment
 kept-unit init rec limits u at = kept-by init rec limits u.facts (first_duration init u.bytes) at
 
+-- the same, if the rendition is known to have a unit
+kept-at : (init : InitData) (rec : RecordingData) (limits : MendLimits) (f : Facts) (o : Option ℕ) → end_of rec ≡ Some f.start → treatment_by init rec limits f o ≡ treatments.Keep
+unfolding treatment_of
+kept-at init rec limits f None at = refl
+kept-at init rec limits f (Some first) at = rw at (rw (eq-eqb f.start f.start refl) refl)
+
+-- a unit that starts where its rendition ends is kept
+pub kept_at_end : (init : InitData) (rec : RecordingData) (limits : MendLimits) (u : ReadUnit) → end_of rec ≡ Some u.facts.start → unit_treatment init rec limits u ≡ treatments.Keep
+unfolding unit_treatment
+kept_at_end init rec limits u at = kept-at init rec limits u.facts (first_duration init u.bytes) at
+
 -- a unit that is kept is recorded as it was sent
-kept-as : (init : InitData) (rec : RecordingData) (limits : MendLimits) (u : ReadUnit) → mended_as treatments.Keep init rec limits u ≡ as_sent u
+kept-as : (bandwidth : ℕ) (init : InitData) (rec : RecordingData) (limits : MendLimits) (u : ReadUnit) → mended_as bandwidth treatments.Keep init rec limits u ≡ as_sent u
 unfolding mended_by
-kept-as init rec limits u = refl
+kept-as bandwidth init rec limits u = refl
 
 -- a unit that starts at the end of its rendition is recorded as it was sent, and nothing else is
 pub contiguous-is-kept : ContiguousIsKept
 unfolding mended_unit
-contiguous-is-kept settings init rec u at =
-    ap (λ (t : Treatment). mended_as t init rec (limits_of settings init) u) (kept-unit init rec (limits_of settings init) u at) ∙ kept-as init rec (limits_of settings init) u
+contiguous-is-kept settings bandwidth init rec u at =
+    ap (λ (t : Treatment). mended_as bandwidth t init rec (limits_of settings init) u) (kept-unit init rec (limits_of settings init) u at) ∙ kept-as bandwidth init rec (limits_of settings init) u

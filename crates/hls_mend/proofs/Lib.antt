@@ -1,10 +1,9 @@
 -- The lemmas of this crate, on the mending of units: their samples and rows, silence and fillers, the boxes that are written,
 -- and the laws of what is recorded for a unit.
 mod RunSteps
-mod SilenceSteps
+mod FrameSteps
 mod CutSteps
 mod FrontSteps
-mod LongSilence
 mod RowSteps
 mod Joined
 mod BoxSteps

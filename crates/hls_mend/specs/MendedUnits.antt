@@ -1,6 +1,8 @@
 -- What is recorded for a unit of a rendition whose units are mended: fillers before it if they are needed, and the unit, as it was sent or
 -- written again.
-use Rattle.std.specs.Prelude.{ℕ, zero, suc, ◌+◌, ◌-◌, ◌*◌, ◌/◌, ◌==◌, nat_lt, ◌&&◌, Bool, true, false, if◌then◌else◌, Option, Some, None, option_map, option_and_then, Result, Ok, Err, List, [], ◌∷◌, length, slice_index_or}
+use Rattle.std.specs.Prelude.{ℕ, zero, suc, ◌+◌, ◌-◌, ◌*◌, ◌/◌, ◌==◌, nat_lt, min, max, ◌&&◌, Bool, true, false, if◌then◌else◌, Option, Some, None, option_map, option_and_then, Result, Ok, Err, List, [], ◌∷◌, length, slice_get, slice_index_or}
+use Rattle.hls_boxes.specs.Kinds.{unit_limit}
+use Rattle.hls_core_laws.specs.declared.rendition.Rendition.{Rendition}
 use Rattle.hls_media_laws.specs.InitData.{InitData, timing_track}
 use Rattle.hls_media_laws.specs.declared.facts.Facts.{Facts}
 use Rattle.hls_media_laws.specs.declared.fault.MediaFault.{MediaFault}
@@ -16,7 +18,8 @@ use Rattle.hls_mend_laws.specs.Retimed.{retimed_unit}
 use Rattle.hls_mend_laws.specs.Treatments.{treatment_of}
 use Rattle.hls_mend_laws.specs.declared.settings.MendSettings.{MendSettings}
 use Rattle.hls_mend_laws.specs.declared.treatment.Treatment.TheVariants as treatments
-use Rattle.hls_mend.specs.Silence.{silent_frame}
+use Rattle.hls_mend_laws.specs.declared.filler.FillerSpan.{FillerSpan}
+use Rattle.hls_mend.specs.Silence.{Sound, sound_of, sound_view}
 use Rattle.hls_mend.specs.Spans.{first_duration}
 use Rattle.hls_mend.specs.declared.gap.FillerSource as sources
 use Rattle.hls_mend.specs.declared.mended.MendedUnit.{MendedUnit}
@@ -89,32 +92,48 @@ unfoldable pub filler_source : Bool → List Facts → Option ℕ
 filler_source true fs = if length fs == 0 then None else Some (length fs - 1)
 filler_source false fs = last_sync 4096 fs (length fs)
 
--- the silent frame of a rendition, if it is audio and its codec has one
-abbrev pub silent_of : Bool → List ℕ → Option (List ℕ)
-silent_of true head = silent_frame head
-silent_of false head = None
+-- the bit rate that a channel declares of rendition n, in bits per second; 0 if it has no such rendition
+abbrev pub rate_in : Option Rendition → ℕ
+rate_in None = 0
+rate_in (Some r) = r.bandwidth
 
--- what fillers are made of: a recorded unit, its duration in ticks, and the silent frame if there is one
+-- the same, by the channel's renditions
+abbrev pub declared_rate : List Rendition → ℕ → ℕ
+declared_rate rs n = rate_in (slice_get rs n)
+
+-- what fillers are made of: a recorded unit, the sound that is repeated if it is audio, and the declared bit rate
 pub record FillerSource : Type 0 where
   pub unit : List ℕ
-  pub len : ℕ
-  pub silent : Option (List ℕ)
+  pub sound : Option Sound
+  pub bandwidth : ℕ
 
 -- the source of fillers as contracts see it, with lists in place of slices
 abbrev pub source_view : sources.FillerSource → FillerSource
-source_view s = record { unit = s.unit.now; len = s.len; silent = option_map (λ f. f.now) s.silent }
+source_view s = record { unit = s.unit.now; sound = option_map sound_view s.sound; bandwidth = s.bandwidth }
 
--- the bytes of a filler: silence if there is a silent frame, or else the recorded unit's first sample for the whole time
-abbrev pub filler_bytes : InitData → List ℕ → Option (List ℕ) → ℕ → ℕ → Option (List ℕ)
-filler_bytes init unit None start ticks = held_unit init unit start ticks
-filler_bytes init unit (Some frame) start ticks = silent_unit init unit frame start ticks
+-- the most bytes of a filler's samples: twice the declared bit rate for its time, and no more than a unit may have
+abbrev pub filler_most : InitData → ℕ → ℕ → ℕ
+filler_most init bandwidth ticks = min (bandwidth * ticks / (4 * (timing_track init).scale)) unit_limit
+
+-- the span of a filler
+abbrev pub span_for : InitData → ℕ → ℕ → ℕ → FillerSpan
+span_for init bandwidth start ticks = record { start = start; ticks = ticks; most = filler_most init bandwidth ticks }
+
+-- the bytes of a filler: of audio its frame as often as needed, of video the recorded unit's first sample for the whole time
+abbrev pub filler_bytes : InitData → List ℕ → Option Sound → FillerSpan → Option (List ℕ)
+filler_bytes init unit None span = held_unit init unit span
+filler_bytes init unit (Some sound) span = silent_unit init unit sound.length sound.silent span
 
 -- a filler from `start` for the given number of ticks, if one can be made
 abbrev pub filler : InitData → FillerSource → ℕ → ℕ → Option ReadUnit
-filler init s start ticks = made_span init start (start + ticks) (filler_bytes init s.unit s.silent start ticks)
+filler init s start ticks = made_span init start (start + ticks) (filler_bytes init s.unit s.sound (span_for init s.bandwidth start ticks))
 
--- the duration of the next filler: as long as the unit that fillers are made of, so that boundaries are as close to each other;
--- the last one takes the rest
+-- how long the fillers of a gap are: as long as the unit after it, so that boundaries are as close to each other, and at least a 64th of
+-- the gap
+abbrev pub filler_len : ℕ → ℕ → ℕ
+filler_len duration gap = max duration ((gap + 63) / 64)
+
+-- the duration of the next filler; the last one takes the rest
 abbrev pub filler_ticks : ℕ → ℕ → ℕ
 filler_ticks len gap = if nat_lt gap (2 * len) then gap else len
 
@@ -124,43 +143,51 @@ fillers_after others next None = []
 fillers_after others next (Some u) = u ∷ others next
 
 -- fillers from a tick to another, at most `most` of them; none follow one that can't be made
-unfoldable pub fillers_from : ℕ → InitData → FillerSource → ℕ → ℕ → List ReadUnit
-fillers_from zero init s start end = []
-fillers_from (suc most) init s start end =
+unfoldable pub fillers_from : ℕ → InitData → FillerSource → ℕ → ℕ → ℕ → List ReadUnit
+fillers_from zero init s len start end = []
+fillers_from (suc most) init s len start end =
     if nat_lt start end
-    then fillers_after (λ (next : ℕ). fillers_from most init s next end) (start + filler_ticks s.len (end - start)) (filler init s start (filler_ticks s.len (end - start)))
+    then fillers_after (λ (next : ℕ). fillers_from most init s len next end) (start + filler_ticks len (end - start)) (filler init s start (filler_ticks len (end - start)))
     else []
 
--- what fillers are made of, given unit n of the rendition and its bytes
-abbrev pub source_at : RecordingData → Option (List ℕ) → ℕ → List ℕ → FillerSource
-source_at rec silent n unit = record { unit = unit; len = (slice_index_or rec.facts n no_facts).duration; silent = silent }
+-- what fillers are made of, given the recorded unit's bytes
+abbrev pub source_with : ℕ → Option Sound → List ℕ → FillerSource
+source_with bandwidth sound unit = record { unit = unit; sound = sound; bandwidth = bandwidth }
 
 -- what fillers of a rendition are made of, given the number of the unit, if there is one and its bytes are kept
-abbrev pub source_by : RecordingData → Option (List ℕ) → Option ℕ → Option FillerSource
-source_by rec silent None = None
-source_by rec silent (Some n) = option_map (source_at rec silent n) (unit_at rec n)
+abbrev pub source_by : ℕ → RecordingData → Option Sound → Option ℕ → Option FillerSource
+source_by bandwidth rec sound None = None
+source_by bandwidth rec sound (Some n) = option_map (source_with bandwidth sound) (unit_at rec n)
 
--- what fillers of a rendition are made of, if it has such a unit
-unfoldable pub source_of : InitData → RecordingData → Option FillerSource
-source_of init rec = source_by rec (silent_of (is_audio init) rec.head) (filler_source (is_audio init) rec.facts)
+-- what fillers of audio are made of, if it is known how long its frames are
+abbrev pub audio_source : ℕ → RecordingData → Option Sound → Option FillerSource
+audio_source bandwidth rec None = None
+audio_source bandwidth rec (Some sound) = source_by bandwidth rec (Some sound) (filler_source true rec.facts)
+
+-- what fillers of a rendition with this declared bit rate are made of, if it has such a unit
+unfoldable pub source_of : ℕ → InitData → RecordingData → Option FillerSource
+source_of bandwidth init rec =
+    if is_audio init then audio_source bandwidth rec (sound_of (timing_track init).scale rec.head)
+    else source_by bandwidth rec None (filler_source false rec.facts)
 
 -- a filler from `start` for the given number of ticks, if there is a source and one can be made of it
-abbrev pub span_filler_by : RecordingData → ℕ → ℕ → Option FillerSource → Option ReadUnit
-span_filler_by rec start ticks None = None
-span_filler_by rec start ticks (Some s) = filler rec.init s start ticks
+abbrev pub span_filler_by : InitData → ℕ → ℕ → Option FillerSource → Option ReadUnit
+span_filler_by init start ticks None = None
+span_filler_by init start ticks (Some s) = filler init s start ticks
 
 -- a filler of a rendition from `start` for the given number of ticks, if one can be made
-unfoldable pub span_filler : RecordingData → ℕ → ℕ → Option ReadUnit
-span_filler rec start ticks = span_filler_by rec start ticks (source_of rec.init rec)
+unfoldable pub span_filler : ℕ → RecordingData → ℕ → ℕ → Option ReadUnit
+span_filler bandwidth rec start ticks = span_filler_by rec.init start ticks (source_of bandwidth rec.init rec)
 
--- the fillers from `start` to `end`, at most 4096, or none without a source
-abbrev pub fillers_by : InitData → ℕ → ℕ → Option FillerSource → List ReadUnit
-fillers_by init start end None = []
-fillers_by init start end (Some s) = fillers_from 4096 init s start end
+-- the fillers from `start` to `end`, at most 64, or none without a source
+abbrev pub fillers_by : InitData → ℕ → ℕ → ℕ → Option FillerSource → List ReadUnit
+fillers_by init len start end None = []
+fillers_by init len start end (Some s) = fillers_from 64 init s len start end
 
--- the fillers of a gap from the end of the rendition to `start`
-unfoldable pub fillers_to : InitData → RecordingData → ℕ → List ReadUnit
-fillers_to init rec start = fillers_by init (last_end rec.facts) start (source_of init rec)
+-- the fillers of a gap from the end of the rendition to a unit
+unfoldable pub fillers_to : ℕ → InitData → RecordingData → Facts → List ReadUnit
+fillers_to bandwidth init rec f =
+    fillers_by init (filler_len f.duration (f.start - last_end rec.facts)) (last_end rec.facts) f.start (source_of bandwidth init rec)
 
 -- ---- what is recorded
 
@@ -184,23 +211,23 @@ changed_to sent None = as_sent sent
 changed_to sent (Some made) = record { fillers = []; unit = made; is_changed = true }
 
 -- what is recorded for a unit with a treatment other than Cut
-unfoldable pub mended_by : Treatment → InitData → RecordingData → ReadUnit → Mended
-mended_by treatments.Retime init rec u =
+unfoldable pub mended_by : ℕ → Treatment → InitData → RecordingData → ReadUnit → Mended
+mended_by bandwidth treatments.Retime init rec u =
     changed_to u (made_span init (last_end rec.facts) (u.facts.start + u.facts.duration) (retimed_unit init u.bytes (last_end rec.facts)))
-mended_by treatments.Fill init rec u = record { fillers = fillers_to init rec u.facts.start; unit = u; is_changed = false }
-mended_by treatment init rec u = as_sent u
+mended_by bandwidth treatments.Fill init rec u = record { fillers = fillers_to bandwidth init rec u.facts; unit = u; is_changed = false }
+mended_by bandwidth treatment init rec u = as_sent u
 
 -- the rest of a unit that was cut is treated as a unit of its own, and isn't cut again
-abbrev pub mended_rest : InitData → RecordingData → MendLimits → ReadUnit → Option ReadUnit → Mended
-mended_rest init rec limits sent None = as_sent sent
-mended_rest init rec limits sent (Some rest) = record (mended_by (unit_treatment init rec limits rest) init rec rest) { is_changed = true }
+abbrev pub mended_rest : ℕ → InitData → RecordingData → MendLimits → ReadUnit → Option ReadUnit → Mended
+mended_rest bandwidth init rec limits sent None = as_sent sent
+mended_rest bandwidth init rec limits sent (Some rest) = record (mended_by bandwidth (unit_treatment init rec limits rest) init rec rest) { is_changed = true }
 
 -- what is recorded for a unit with this treatment
-abbrev pub mended_as : Treatment → InitData → RecordingData → MendLimits → ReadUnit → Mended
-mended_as treatments.Cut init rec limits u =
-    mended_rest init rec limits u (option_and_then (read_as_unit init) (cut_unit init u.bytes limits.snap (last_end rec.facts)))
-mended_as treatment init rec limits u = mended_by treatment init rec u
+abbrev pub mended_as : ℕ → Treatment → InitData → RecordingData → MendLimits → ReadUnit → Mended
+mended_as bandwidth treatments.Cut init rec limits u =
+    mended_rest bandwidth init rec limits u (option_and_then (read_as_unit init) (cut_unit init u.bytes limits.snap (last_end rec.facts)))
+mended_as bandwidth treatment init rec limits u = mended_by bandwidth treatment init rec u
 
--- what is recorded for a unit, given its rendition's recording
-unfoldable pub mended_unit : MendSettings → InitData → RecordingData → ReadUnit → Mended
-mended_unit settings init rec u = mended_as (unit_treatment init rec (limits_of settings init) u) init rec (limits_of settings init) u
+-- what is recorded for a unit, given its rendition's recording and its declared bit rate
+unfoldable pub mended_unit : MendSettings → ℕ → InitData → RecordingData → ReadUnit → Mended
+mended_unit settings bandwidth init rec u = mended_as bandwidth (unit_treatment init rec (limits_of settings init) u) init rec (limits_of settings init) u

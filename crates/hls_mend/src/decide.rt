@@ -46,8 +46,8 @@ fn find_end(recording: &Recording) -> Option<u64>
     Some(recording.last_end())
 }
 
-/// What becomes of a unit.
-#[tactic(auto, unfolding(crate::specs::MendedUnits::unit_treatment))]
+/// What becomes of a unit. One that starts at the end isn't taken apart.
+#[tactic(auto, unfolding(crate::specs::MendedUnits::unit_treatment), using(crate::proofs::KeptLaws::kept_at_end))]
 fn treat_unit(
     alloc: Global,
     init: &Init,
@@ -57,6 +57,9 @@ fn treat_unit(
 ) -> Result<Treatment, AllocError>
     ensures { IfOk result (λ t. t ≡ unit_treatment init.now recording.now limits unit.now) }
 {
+    if find_end(recording) == Some(unit.facts.start) {
+        return Ok(Treatment::Keep);
+    }
     let Some(first) = first_duration(alloc, init, &unit.bytes)? else {
         return Ok(Treatment::Keep);
     };
@@ -86,13 +89,14 @@ fn as_sent(alloc: Global, unit: ReadUnit) -> MendedUnit
 #[tactic(auto, unfolding(crate::specs::MendedUnits::mended_by))]
 fn mend_by(
     alloc: Global,
+    bandwidth: u64,
     treatment: Treatment,
     init: &Init,
     recording: &Recording,
     unit: ReadUnit,
 ) -> Result<MendedUnit, AllocError>
     requires { IsUnit init.now unit.bytes unit.facts }
-    ensures value { IfOk result (λ m. mended_view m ≡ mended_by_treatment treatment init.now recording.now unit) }
+    ensures value { IfOk result (λ m. mended_view m ≡ mended_by_treatment bandwidth treatment init.now recording.now unit) }
     ensures valid { IfOk result (λ m. IsUnit init.now m.unit.bytes m.unit.facts) }
     ensures filled { IfOk result (λ m. All (λ u. IsUnit init.now u.bytes u.facts) m.fillers.items) }
 {
@@ -110,7 +114,7 @@ fn mend_by(
             }
         }
         Treatment::Fill => {
-            let fillers = fill_gap(alloc, init, recording, unit.facts.start)?;
+            let fillers = fill_gap(alloc, init, recording, bandwidth, unit.facts)?;
             Ok(MendedUnit {
                 fillers,
                 unit,
@@ -121,32 +125,33 @@ fn mend_by(
     }
 }
 
-/// What is recorded for a unit, given its rendition's recording: the unit as it was sent if it starts at the end of the recording, or if
-/// mending can't write it again.
+/// What is recorded for a unit, given its rendition's recording and declared bit rate in bits per second: the unit as it was sent if it
+/// starts at the end of the recording, or if mending can't write it again.
 #[tactic(auto, unfolding(crate::specs::MendedUnits::mended_unit))]
 pub fn mend_unit(
     alloc: Global,
     settings: MendSettings,
+    bandwidth: u64,
     init: &Init,
     recording: &Recording,
     unit: ReadUnit,
 ) -> Result<MendedUnit, AllocError>
     requires { IsUnit init.now unit.bytes unit.facts }
-    ensures value { IfOk result (λ m. mended_view m ≡ mended_unit settings init.now recording.now unit) }
+    ensures value { IfOk result (λ m. mended_view m ≡ mended_unit settings bandwidth init.now recording.now unit) }
     ensures valid { IfOk result (λ m. IsUnit init.now m.unit.bytes m.unit.facts) }
     ensures filled { IfOk result (λ m. All (λ u. IsUnit init.now u.bytes u.facts) m.fillers.items) }
 {
     let limits = limits_for(settings, init);
     let treatment = treat_unit(alloc, init, recording, limits, &unit)?;
     if treatment != Treatment::Cut {
-        return mend_by(alloc, treatment, init, recording, unit);
+        return mend_by(alloc, bandwidth, treatment, init, recording, unit);
     }
     let made = cut_unit(alloc, init, &unit.bytes, limits.snap, recording.last_end())?;
     let Some(rest) = read_made(init, made)? else {
         return Ok(as_sent(alloc, unit));
     };
     let treatment = treat_unit(alloc, init, recording, limits, &rest)?;
-    let mut mended = mend_by(alloc, treatment, init, recording, rest)?;
+    let mut mended = mend_by(alloc, bandwidth, treatment, init, recording, rest)?;
     mended.is_changed = true;
     Ok(mended)
 }

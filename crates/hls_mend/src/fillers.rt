@@ -1,70 +1,130 @@
 //! Units that fill a gap, made of a unit that was recorded.
 
-ghost use Rattle.std.specs.Prelude.{◌≡◌, ◌<◌, ◌≤◌, ◌*◌, ◌&&◌, true, nat_le, replicate, option_map, IfOk};
+ghost use Rattle.std.specs.Prelude.{◌≡◌, ◌<◌, ◌≤◌, ◌-◌, ◌^◌, replicate, option_map, option_and_then, true, IfOk};
 ghost use Rattle.std.specs.List.{concat};
-ghost use Rattle.hls_boxes.specs.Kinds.{unit_limit};
-ghost use Rattle.hls_mend_laws.specs.Fillers.{held_unit, silent_sample as sample_of_silence, silent_samples, silent_unit as unit_of_silence};
+ghost use Rattle.hls_mend_laws.specs.Fillers.{is_span as can_be_span, held_unit, silent_sample as sample_of_silence, frames_end as end_of_frames, whole_frames, frame_count as count_of_frames, silent_samples, lasts_a_tick, are_few, can_repeat as may_repeat, silence_by, silent_unit as unit_of_silence};
+ghost use Rattle.hls_mend_laws.specs.Retimed.{written};
+ghost use Rattle.hls_mend.specs.Views.{fragment_view};
 
-use crate::fragment::read_fragment;
+use crate::fragment::{Fragment, read_fragment};
 use crate::write::{FragmentParts, write_unit};
-use hls_boxes::kinds::UNIT_LIMIT;
 use hls_media_laws::init::Init;
+use hls_mend_laws::filler::{FillerSpan, FrameLength};
 use hls_mend_laws::sample::Sample;
 use std::alloc::{AllocError, Global};
 
-/// A filler that holds the first sample of a recorded unit for the given number of ticks: if that is a sync sample of video, the picture
-/// freezes. None if mending can't write the unit again, or if the ticks are 0 or 2^32 or more.
+/// The most frames of a filler.
+const MOST_FRAMES: u128 = 65536;
+
+/// Whether the ticks of a span are above 0 and fit 32 bits.
+fn is_span(span: FillerSpan) -> bool
+    ensures { result ≡ can_be_span span }
+{
+    span.ticks > 0 && span.ticks < 1 << 32
+}
+
+/// A filler that holds the first sample of a recorded unit for the ticks of the span: if that is a sync sample of video, the picture
+/// freezes. None if mending can't write the unit again, if the ticks are 0 or 2^32 or more, or if the sample has more bytes than the
+/// filler may have.
 #[tactic(auto, unfolding(hls_mend_laws::specs::Fillers::held_unit))]
 pub fn hold_unit(
     alloc: Global,
     init: &Init,
     unit: &[u8],
-    start: u64,
-    ticks: u64,
+    span: FillerSpan,
 ) -> Result<Option<Vec<u8>>, AllocError>
-    ensures { IfOk result (λ o. option_map (λ v. v.items) o ≡ held_unit init.now unit.now start ticks) }
+    ensures { IfOk result (λ o. option_map (λ v. v.items) o ≡ held_unit init.now unit.now span) }
 {
     let Some(fragment) = read_fragment(alloc, init, unit)? else {
         return Ok(None);
     };
-    if fragment.samples.is_empty() || ticks == 0 || ticks >= 1 << 32 {
+    if fragment.samples.is_empty() {
+        return Ok(None);
+    }
+    let first = fragment.samples[0];
+    if !is_span(span) || first.size > span.most {
         return Ok(None);
     }
     let sample = Sample {
-        duration: ticks as u32,
-        ..fragment.samples[0]
+        duration: span.ticks as u32,
+        ..first
     };
     let parts = FragmentParts {
         front: &[],
         number: fragment.number,
         head: fragment.head,
-        start,
+        start: span.start,
         samples: &[sample],
-        payload: &fragment.payload[..sample.size as usize],
+        payload: &fragment.payload[..first.size as usize],
     };
     write_unit(alloc, parts)
 }
 
-/// Frames of silence of `frame` ticks for the given number of ticks; the last one may be shorter.
-fn make_silent_samples(
+/// The tick at which the first `count` frames end.
+fn frames_end(length: FrameLength, count: u32) -> u128
+    requires { 0 < length.rate }
+    ensures { result ≡ end_of_frames length count }
+{
+    u128::from(count) * u128::from(length.ticks) / u128::from(length.rate)
+}
+
+/// The number of frames that end within these ticks.
+#[tactic(auto, using(crate::proofs::FrameSteps::frames_fit))]
+fn frame_count(length: FrameLength, ticks: u64) -> u128
+    requires { 0 < length.ticks }
+    ensures value { result ≡ count_of_frames length ticks }
+    ensures within { end_of_frames length result ≤ ticks }
+{
+    u128::from(ticks) * u128::from(length.rate) / u128::from(length.ticks)
+}
+
+/// The first `count` frames.
+#[tactic(auto, using(crate::proofs::FrameSteps::frames_next, crate::proofs::FrameSteps::frames_zero))]
+fn make_whole_frames(
     alloc: Global,
-    frame: u32,
+    length: FrameLength,
     size: u32,
-    ticks: u64,
+    count: u32,
 ) -> Result<Vec<Sample>, AllocError>
-    requires { 0 < frame }
-    ensures { IfOk result (λ v. v.items ≡ silent_samples frame size ticks) }
+    requires rate { 0 < length.rate }
+    requires short { end_of_frames length count < 2 ^ 32 }
+    ensures { IfOk result (λ v. v.items ≡ whole_frames length size count) }
 {
     let mut samples = Vec::new(alloc);
-    let mut left = ticks;
-    'frames: while left >= u64::from(frame) {
-        samples.push(silent_sample(frame, size))?;
-        left -= u64::from(frame);
+    for done in 0..count {
+        let ticks = frames_end(length, done + 1) - frames_end(length, done);
+        samples.push(silent_sample(ticks as u32, size))?;
     }
+    Ok(samples)
+}
+
+/// The ticks that are left after the first `count` frames.
+fn ticks_left(length: FrameLength, count: u32, ticks: u32) -> u32
+    requires rate { 0 < length.rate }
+    requires within { end_of_frames length count ≤ ticks }
+    ensures { result ≡ ticks - end_of_frames length count }
+{
+    ticks - frames_end(length, count) as u32
+}
+
+/// Frames for the given number of ticks; the last one may be shorter.
+fn make_frames(
+    alloc: Global,
+    length: FrameLength,
+    size: u32,
+    ticks: u32,
+) -> Result<Vec<Sample>, AllocError>
+    requires lasts { lasts_a_tick length ≡ true }
+    requires few { count_of_frames length ticks < 65536 }
+    ensures { IfOk result (λ v. v.items ≡ silent_samples length size ticks) }
+{
+    let count = frame_count(length, u64::from(ticks)) as u32;
+    let mut samples = make_whole_frames(alloc, length, size, count)?;
+    let left = ticks_left(length, count, ticks);
     if left == 0 {
         return Ok(samples);
     }
-    samples.push(silent_sample(left as u32, size))?;
+    samples.push(silent_sample(left, size))?;
     Ok(samples)
 }
 
@@ -93,30 +153,70 @@ fn repeat_frame(alloc: Global, frame: &[u8], times: usize) -> Result<Vec<u8>, Al
     Ok(bytes)
 }
 
-/// Whether this many frames of `size` bytes, each with its row, may fit a unit.
-fn fit_a_unit(frames: u64, size: usize) -> bool
-    ensures value { result ≡ (nat_le frames 4194304 && (nat_le size unit_limit && nat_le (frames * size) unit_limit)) }
-    ensures small { result ≡ true → size ≤ unit_limit }
+/// Whether a frame lasts for a tick at least.
+fn lasts_a_tick(length: FrameLength) -> bool
+    ensures { result ≡ lasts_a_tick length }
 {
-    if frames > UNIT_LIMIT / 16 || size as u64 > UNIT_LIMIT {
-        return false;
-    }
-    frames * size as u64 <= UNIT_LIMIT
+    length.rate > 0 && u64::from(length.rate) <= length.ticks
 }
 
-/// A filler of a silent frame as often as needed for the given number of ticks. Frames last as long as the first sample of the recorded
-/// unit; the last one may be shorter. None if mending can't write the unit again, if the ticks are 0, or if the filler would be longer
-/// than a unit may be.
+/// Whether the frames of a span are neither too many nor larger than the filler may be.
+fn are_few(length: FrameLength, size: usize, span: FillerSpan) -> bool
+    requires { 0 < length.ticks }
+    ensures value { result ≡ are_few length size span }
+    ensures small { result ≡ true → size < 2 ^ 32 }
+{
+    let count = frame_count(length, span.ticks);
+    count < MOST_FRAMES && (count + 1) * size as u128 <= u128::from(span.most)
+}
+
+/// Whether frames of this length and this size can be repeated over the span.
+fn can_repeat(length: FrameLength, size: usize, span: FillerSpan) -> bool
+    ensures value { result ≡ may_repeat length size span }
+    ensures small { result ≡ true → size < 2 ^ 32 }
+{
+    is_span(span) && lasts_a_tick(length) && are_few(length, size, span)
+}
+
+/// A filler of this frame as often as needed.
+fn repeat_over(
+    alloc: Global,
+    fragment: &Fragment<'_>,
+    length: FrameLength,
+    frame: &[u8],
+    span: FillerSpan,
+) -> Result<Option<Vec<u8>>, AllocError>
+    ensures { IfOk result (λ o. option_map (λ v. v.items) o ≡ option_and_then written (silence_by length frame.now (fragment_view fragment.now) span)) }
+{
+    if !can_repeat(length, frame.len(), span) {
+        return Ok(None);
+    }
+    let samples = make_frames(alloc, length, frame.len() as u32, span.ticks as u32)?;
+    let payload = repeat_frame(alloc, frame, samples.len())?;
+    let parts = FragmentParts {
+        front: &[],
+        number: fragment.number,
+        head: fragment.head,
+        start: span.start,
+        samples: &samples,
+        payload: &payload,
+    };
+    write_unit(alloc, parts)
+}
+
+/// A filler of a frame as often as needed for the ticks of the span: the silent frame, or else the first sample of the recorded unit. Each
+/// is as long as the codec says; the last one may be shorter. None if mending can't write the unit again, if the ticks are 0 or 2^32 or
+/// more, if there were more than 65536 frames, or if they had more bytes than the filler may have.
 #[tactic(auto, unfolding(hls_mend_laws::specs::Fillers::silent_unit))]
 pub fn silent_unit(
     alloc: Global,
     init: &Init,
     unit: &[u8],
-    silent: &[u8],
-    start: u64,
-    ticks: u64,
+    length: FrameLength,
+    silent: Option<&[u8]>,
+    span: FillerSpan,
 ) -> Result<Option<Vec<u8>>, AllocError>
-    ensures { IfOk result (λ o. option_map (λ v. v.items) o ≡ unit_of_silence init.now unit.now silent.now start ticks) }
+    ensures { IfOk result (λ o. option_map (λ v. v.items) o ≡ unit_of_silence init.now unit.now length (option_map (λ frame. frame.now) silent.entry) span) }
 {
     let Some(fragment) = read_fragment(alloc, init, unit)? else {
         return Ok(None);
@@ -124,22 +224,10 @@ pub fn silent_unit(
     if fragment.samples.is_empty() {
         return Ok(None);
     }
-    let frame = fragment.samples[0].duration;
-    if frame == 0 || ticks == 0 {
-        return Ok(None);
-    }
-    if !fit_a_unit(ticks / u64::from(frame), silent.len()) {
-        return Ok(None);
-    }
-    let samples = make_silent_samples(alloc, frame, silent.len() as u32, ticks)?;
-    let payload = repeat_frame(alloc, silent, samples.len())?;
-    let parts = FragmentParts {
-        front: &[],
-        number: fragment.number,
-        head: fragment.head,
-        start,
-        samples: &samples,
-        payload: &payload,
+    let first = fragment.samples[0];
+    let frame = match silent {
+        Some(frame) => frame,
+        None => &fragment.payload[..first.size as usize],
     };
-    write_unit(alloc, parts)
+    repeat_over(alloc, &fragment, length, frame, span)
 }

@@ -4,7 +4,7 @@ ghost use Rattle.std.specs.Prelude.{◌≡◌, ◌≤◌, ◌==◌, true, nat_le
 ghost use Rattle.std.specs.List.{list_all};
 ghost use Rattle.hls_mend_laws.specs.Fragments.{total_size};
 ghost use Rattle.hls_media_laws.specs.Fields.{tfdt_fits, decode_time, tfhd_fits as fields_fit_tfhd, trun_fits as rows_fit, sample_count};
-ghost use Rattle.hls_mend_laws.specs.FragmentsRead.{keeps_offset, fragment_from, fragment_of};
+ghost use Rattle.hls_mend_laws.specs.FragmentsRead.{most_samples, keeps_offset, fragment_from, fragment_of};
 ghost use Rattle.hls_mend.specs.Views.{fragment_view, unit_view};
 
 use crate::samples::{read_defaults, read_samples, tfhd_fits, trun_fits};
@@ -71,12 +71,15 @@ fn keep_offsets(is_signed: bool, samples: &[Sample]) -> bool
         .all(|sample| is_signed || sample.offset < 1 << 31)
 }
 
-/// Whether the fields that are read are within their boxes, and there are no more samples than bytes.
+/// The most samples of a unit that is taken apart.
+const MOST_SAMPLES: u32 = 65536;
+
+/// Whether the fields that are read are within their boxes, and there are no more samples than bytes, and no more than are taken apart.
 #[tactic(auto, unfolding(hls_media_laws::specs::Fields::sample_count))]
 fn can_be_read(traf: TrafParts<'_>, len: usize) -> bool
     ensures head { result ≡ true → 8 ≤ length traf.entry.head.now }
     ensures run { result ≡ true → 8 ≤ length traf.entry.run.now }
-    ensures value { result ≡ (fields_fit_tfhd traf.entry.head.now && (rows_fit traf.entry.run.now && nat_le (sample_count traf.entry.run.now) len)) }
+    ensures value { result ≡ (fields_fit_tfhd traf.entry.head.now && (rows_fit traf.entry.run.now && (nat_le (sample_count traf.entry.run.now) len && nat_le (sample_count traf.entry.run.now) most_samples))) }
 {
     if !tfhd_fits(traf.head) {
         return false;
@@ -84,7 +87,8 @@ fn can_be_read(traf: TrafParts<'_>, len: usize) -> bool
     if !trun_fits(traf.run) {
         return false;
     }
-    u32_at(traf.run, 4) as usize <= len
+    let count = u32_at(traf.run, 4);
+    count as usize <= len && count <= MOST_SAMPLES
 }
 
 /// The fragment with these parts, if its fields are within their boxes and its samples fill the `mdat`.

@@ -2,13 +2,18 @@
 
 ghost use Rattle.std.specs.Prelude.{◌≡◌, ◌<◌, ◌≤◌, length, slice_index_or, option_map, All, IfOk, IfSome};
 ghost use Rattle.hls_media_laws.specs.{FactLists.no_facts, IsInitOrUnit.IsUnit};
-ghost use Rattle.hls_mend.specs.MendedUnits.{is_audio as is_audio_init, filler, filler_bytes, filler_source, filler_ticks as ticks_of_filler, fillers_from, fillers_to, last_sync, silent_of, source_of, source_view, span_filler};
+ghost use Rattle.hls_mend.specs.MendedUnits.{declared_rate as rate_of, is_audio as is_audio_init, audio_source, filler, filler_bytes, filler_len as len_of_fillers, filler_most as most_of_filler, filler_source, filler_ticks as ticks_of_filler, fillers_from, fillers_to, last_sync, source_by, source_of, source_view, span_filler, span_for as span_of};
+ghost use Rattle.hls_mend.specs.Silence.{sound_view};
 
 use crate::fillers::{hold_unit, silent_unit};
 use crate::made_units::read_span;
 use crate::mended::ReadUnit;
-use crate::silence::silent_frame;
+use crate::silence::{Sound, find_sound};
+use hls_boxes::kinds::UNIT_LIMIT;
+use hls_core_laws::rendition::Rendition;
+use hls_media_laws::facts::Facts;
 use hls_media_laws::init::Init;
+use hls_mend_laws::filler::FillerSpan;
 use hls_record::Recording;
 use std::alloc::{AllocError, Global};
 
@@ -16,7 +21,7 @@ use std::alloc::{AllocError, Global};
 const MOST_UNITS: u64 = 4096;
 
 /// The number of fillers that a gap has at most.
-const MOST_FILLERS: u64 = 4096;
+const MOST_FILLERS: u64 = 64;
 
 /// The handler of audio, `soun`.
 const AUDIO_HANDLER: u32 = 0x736f_756e;
@@ -26,10 +31,20 @@ const AUDIO_HANDLER: u32 = 0x736f_756e;
 pub struct FillerSource<'a> {
     /// A recorded unit.
     pub unit: &'a [u8],
-    /// Its duration in ticks.
-    pub len: u64,
-    /// The rendition's silent frame, if it has one.
-    pub silent: Option<&'a [u8]>,
+    /// What is repeated, if it is audio.
+    pub sound: Option<Sound<'a>>,
+    /// The declared bit rate, in bits per second.
+    pub bandwidth: u64,
+}
+
+/// The bit rate that a channel declares of rendition `n`, in bits per second; 0 if it has no such rendition.
+pub fn declared_rate(renditions: &[Rendition], n: usize) -> u64
+    ensures { result ≡ rate_of renditions.now n }
+{
+    match renditions.get(n) {
+        Some(rendition) => rendition.bandwidth,
+        None => 0,
+    }
 }
 
 /// Whether the timing track is audio.
@@ -37,13 +52,6 @@ pub fn is_audio(init: &Init) -> bool
     ensures { result ≡ is_audio_init init.now }
 {
     init.timing_track().handler == AUDIO_HANDLER
-}
-
-/// The silent frame of a rendition of audio.
-fn find_silence(is_audio: bool, head: &[u8]) -> Option<&'static [u8]>
-    ensures { option_map (λ frame. frame.now) result ≡ silent_of is_audio head.now }
-{
-    if is_audio { silent_frame(head) } else { None }
 }
 
 /// Whether unit `n` begins with a sync sample.
@@ -93,28 +101,61 @@ fn find_unit(recording: &Recording, is_audio: bool) -> Option<u64>
     Some(count - 1)
 }
 
-/// The duration of unit `n`, in ticks.
-fn duration_at(recording: &Recording, n: u64) -> u64
-    requires { n < length recording.now.facts }
-    ensures { result ≡ (slice_index_or recording.now.facts n no_facts).duration }
+/// What fillers are made of, given the number of the recorded unit.
+fn source_at<'a>(
+    recording: &'a Recording,
+    sound: Option<Sound<'a>>,
+    bandwidth: u64,
+    n: Option<u64>,
+) -> Option<FillerSource<'a>>
+    ensures { option_map source_view result ≡ source_by bandwidth recording.now (option_map sound_view sound.entry) n }
 {
-    match recording.facts(n) {
-        Some(facts) => facts.duration,
-        None => unreachable!(),
-    }
+    let unit = recording.unit(n?)?;
+    Some(FillerSource {
+        unit,
+        sound,
+        bandwidth,
+    })
+}
+
+/// What fillers of audio are made of.
+fn find_audio_source<'a>(
+    recording: &'a Recording,
+    sound: Option<Sound<'a>>,
+    bandwidth: u64,
+) -> Option<FillerSource<'a>>
+    ensures { option_map source_view result ≡ audio_source bandwidth recording.now (option_map sound_view sound.entry) }
+{
+    let sound = sound?;
+    source_at(
+        recording,
+        Some(sound),
+        bandwidth,
+        find_unit(recording, true),
+    )
 }
 
 /// What fillers of a rendition are made of.
 #[tactic(auto, unfolding(crate::specs::MendedUnits::source_of))]
-fn find_source<'a>(init: &Init, recording: &'a Recording) -> Option<FillerSource<'a>>
-    ensures { option_map source_view result ≡ source_of init.now recording.now }
+fn find_source<'a>(
+    init: &Init,
+    recording: &'a Recording,
+    bandwidth: u64,
+) -> Option<FillerSource<'a>>
+    ensures { option_map source_view result ≡ source_of bandwidth init.now recording.now }
 {
-    let n = find_unit(recording, is_audio(init))?;
-    Some(FillerSource {
-        unit: recording.unit(n)?,
-        len: duration_at(recording, n),
-        silent: find_silence(is_audio(init), recording.init_section_bytes()),
-    })
+    if !is_audio(init) {
+        return source_at(recording, None, bandwidth, find_unit(recording, false));
+    }
+    let sound = find_sound(init.timing_track().scale, recording.init_section_bytes());
+    find_audio_source(recording, sound, bandwidth)
+}
+
+/// How long the fillers of a gap before a unit of this duration are, in ticks.
+fn filler_len(duration: u64, gap: u64) -> u64
+    ensures { result ≡ len_of_fillers duration gap }
+{
+    duration.max(gap / 64 + u64::from(gap % 64 > 0))
 }
 
 /// The length of the next filler of a gap, in ticks.
@@ -129,19 +170,38 @@ fn filler_ticks(len: u64, gap: u64) -> u64
     }
 }
 
+/// The most bytes of a filler's samples.
+fn filler_most(init: &Init, bandwidth: u64, ticks: u64) -> u32
+    ensures { result ≡ most_of_filler init.now bandwidth ticks }
+{
+    let scale = u128::from(init.timing_track().scale);
+    let twice = u128::from(bandwidth) * u128::from(ticks) / (4 * scale);
+    twice.min(u128::from(UNIT_LIMIT)) as u32
+}
+
+/// The span of a filler.
+fn span_for(init: &Init, bandwidth: u64, start: u64, ticks: u64) -> FillerSpan
+    ensures { result ≡ span_of init.now bandwidth start ticks }
+{
+    FillerSpan {
+        start,
+        ticks,
+        most: filler_most(init, bandwidth, ticks),
+    }
+}
+
 /// The bytes of a filler, if one can be made.
 fn make_bytes(
     alloc: Global,
     init: &Init,
     source: FillerSource<'_>,
-    start: u64,
-    ticks: u64,
+    span: FillerSpan,
 ) -> Result<Option<Vec<u8>>, AllocError>
-    ensures { IfOk result (λ o. option_map (λ v. v.items) o ≡ filler_bytes init.now (source_view source.entry).unit (source_view source.entry).silent start ticks) }
+    ensures { IfOk result (λ o. option_map (λ v. v.items) o ≡ filler_bytes init.now (source_view source.entry).unit (source_view source.entry).sound span) }
 {
-    match source.silent {
-        Some(frame) => silent_unit(alloc, init, source.unit, frame, start, ticks),
-        None => hold_unit(alloc, init, source.unit, start, ticks),
+    match source.sound {
+        Some(sound) => silent_unit(alloc, init, source.unit, sound.length, sound.silent, span),
+        None => hold_unit(alloc, init, source.unit, span),
     }
 }
 
@@ -156,21 +216,22 @@ fn make_filler(
     ensures value { IfOk result (λ o. o ≡ filler init.now (source_view source.entry) start ticks) }
     ensures valid { IfOk result (λ o. IfSome o (λ u. IsUnit init.now u.bytes u.facts)) }
 {
-    let made = make_bytes(alloc, init, source, start, ticks)?;
+    let span = span_for(init, source.bandwidth, start, ticks);
+    let made = make_bytes(alloc, init, source, span)?;
     let end = u128::from(start) + u128::from(ticks);
     read_span(init, made, start, end)
 }
 
-/// Fillers as long as the unit that they are made of, from a tick to another. None follow one that can't be made, and there are at most
-/// 4096.
+/// Fillers of this length from a tick to another. None follow one that can't be made, and there are at most 64.
 fn make_fillers(
     alloc: Global,
     init: &Init,
     source: FillerSource<'_>,
+    len: u64,
     start: u64,
     end: u64,
 ) -> Result<Vec<ReadUnit>, AllocError>
-    ensures value { IfOk result (λ v. v.items ≡ fillers_from 4096 init.now (source_view source.entry) start end) }
+    ensures value { IfOk result (λ v. v.items ≡ fillers_from 64 init.now (source_view source.entry) len start end) }
     ensures valid { IfOk result (λ v. All (λ u. IsUnit init.now u.bytes u.facts) v.items) }
 {
     let mut fillers = Vec::new(alloc);
@@ -180,7 +241,7 @@ fn make_fillers(
         if next >= end {
             return Ok(fillers);
         }
-        let ticks = filler_ticks(source.len, end - next);
+        let ticks = filler_ticks(len, end - next);
         let Some(filler) = make_filler(alloc, init, source, next, ticks)? else {
             return Ok(fillers);
         };
@@ -191,38 +252,43 @@ fn make_fillers(
     Ok(fillers)
 }
 
-/// The fillers of a gap from the end of a rendition to `start`, in ticks. Of audio each is silence if the codec has a silent frame;
-/// otherwise the last sync sample is held.
+/// The fillers of a gap from the end of a rendition with this declared bit rate to a unit. Of audio each repeats the silent frame, or else
+/// the first sample of the last unit; of video it holds the last sync sample.
 #[tactic(auto, unfolding(crate::specs::MendedUnits::fillers_to))]
 pub fn fill_gap(
     alloc: Global,
     init: &Init,
     recording: &Recording,
-    start: u64,
+    bandwidth: u64,
+    facts: Facts,
 ) -> Result<Vec<ReadUnit>, AllocError>
-    ensures value { IfOk result (λ v. v.items ≡ fillers_to init.now recording.now start) }
+    ensures value { IfOk result (λ v. v.items ≡ fillers_to bandwidth init.now recording.now facts) }
     ensures valid { IfOk result (λ v. All (λ u. IsUnit init.now u.bytes u.facts) v.items) }
 {
-    let Some(source) = find_source(init, recording) else {
+    let Some(source) = find_source(init, recording, bandwidth) else {
         return Ok(Vec::new(alloc));
     };
-    make_fillers(alloc, init, source, recording.last_end(), start)
+    let start = recording.last_end();
+    let len = filler_len(facts.duration, facts.start.saturating_sub(start));
+    make_fillers(alloc, init, source, len, start, facts.start)
 }
 
-/// A filler of a rendition from `start` for the given number of ticks. None if the rendition has no unit to make it of whose bytes are
-/// kept, or mending can't write that unit again.
+/// A filler of a rendition with this declared bit rate, from `start` for the given number of ticks. None if the rendition has no unit to
+/// make it of whose bytes are kept, if mending can't write that unit again, if it isn't known how long frames of audio are, or if the
+/// filler would be larger than twice the bit rate for its time.
 #[tactic(auto, unfolding(crate::specs::MendedUnits::span_filler))]
 pub fn make_span_filler(
     alloc: Global,
     recording: &Recording,
+    bandwidth: u64,
     start: u64,
     ticks: u64,
 ) -> Result<Option<ReadUnit>, AllocError>
-    ensures value { IfOk result (λ o. o ≡ span_filler recording.now start ticks) }
+    ensures value { IfOk result (λ o. o ≡ span_filler bandwidth recording.now start ticks) }
     ensures valid { IfOk result (λ o. IfSome o (λ u. IsUnit recording.now.init u.bytes u.facts)) }
 {
     let init = recording.init();
-    let Some(source) = find_source(init, recording) else {
+    let Some(source) = find_source(init, recording, bandwidth) else {
         return Ok(None);
     };
     make_filler(alloc, init, source, start, ticks)

@@ -5,7 +5,7 @@ ghost use Rattle.hls_mend_laws.specs.Jumps.{is_ahead_of, allows_jump as permits_
 
 use hls_mend_laws::presence::Presence;
 
-/// Whether a unit that starts at `start_us` is ahead of the channel: more than `fill_us` after the newest end of all renditions.
+/// Whether a unit that starts at `start_us` is ahead of the channel: more than `fill_us` after its end.
 pub fn is_ahead_of_channel(fill_us: u64, newest_end_us: u64, start_us: u64) -> bool
     ensures { result ≡ is_ahead_of fill_us newest_end_us start_us }
 {

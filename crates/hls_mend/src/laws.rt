@@ -8,7 +8,8 @@ pub fn contiguous_is_kept()
     ensures { ContiguousIsKept }
 {}
 
-/// Fillers continue their rendition from its end, each starts where the one before it ends, and none ends after the gap.
+/// Fillers continue their rendition from its end, each starts where the one before it ends, and there are at most 64. They end with the
+/// gap, or at a tick from which the next one can't be made.
 pub fn fillers_are_joined()
     ensures { FillersAreJoined }
 {}

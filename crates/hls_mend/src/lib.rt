@@ -4,7 +4,7 @@
 //! fillers before it if there is a gap. [`MendedUnits`](../specs/MendedUnits.antt) defines its result.
 //!
 //! [`retime_unit`] moves a unit's start to the end of its rendition, [`cut_unit`] removes leading samples of audio, and [`hold_unit`] and
-//! [`silent_unit`] make units that fill a gap. Each returns `None` for a unit that mending can't write again: one of several tracks or runs,
+//! [`silent_unit`] make units that fill a gap, no larger than they may be. Each returns `None` for a unit that mending can't write again: one of several tracks or runs,
 //! or with boxes in its `traf` that hold offsets of their own. [`silent_frame`] is the frame that silence of a rendition consists of.
 //!
 //! An encoder that restarts sends its init section again. If that differs only in bit rates, times, names or metadata, what was recorded
@@ -39,7 +39,7 @@ pub use cuts::cut_unit;
 pub use decide::mend_unit;
 pub use encoder_signs::EncoderSigns;
 pub use fillers::{hold_unit, silent_unit};
-pub use gap::make_span_filler;
+pub use gap::{declared_rate, make_span_filler};
 pub use jumps::{is_accepted_jump, is_ahead_of_channel};
 pub use normal::is_same_to_decoders;
 pub use retime::retime_unit;

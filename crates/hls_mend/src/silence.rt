@@ -1,11 +1,12 @@
-//! The silent frames of AAC-LC.
+//! The silent frames of AAC-LC, and what fillers of audio repeat.
 
 ghost use Rattle.std.specs.Prelude.{◌≡◌, option_map};
-ghost use Rattle.hls_mend.specs.Silence.{frame_of_channels, frame_of_codec, silent_frame as silent_frame_of};
+ghost use Rattle.hls_mend.specs.Silence.{frame_length as length_of_frames, frame_of_channels, frame_of_codec, silent_frame as silent_frame_of, sound_by, sound_of, sound_view};
 
 use hls_codecs::codec::{Codec, Mp4aConfig};
 use hls_codecs::read_track_format;
-use hls_codecs::track_format::{Channels, TrackKind};
+use hls_codecs::track_format::{AudioFrames, Channels, TrackFormat, TrackKind};
+use hls_mend_laws::filler::FrameLength;
 
 /// A silent frame with one channel, at any sampling rate (ISO/IEC 14496-3 4.4.2).
 const SILENT_MONO: [u8; 6] = [0x00, 0xc8, 0x00, 0x80, 0x23, 0x80];
@@ -15,6 +16,15 @@ const SILENT_STEREO: [u8; 9] = [0x21, 0x00, 0x49, 0x90, 0x02, 0x19, 0x00, 0x23, 
 
 /// The audio object type of AAC-LC (ISO/IEC 14496-3 1.5.1.1).
 const AAC_LC: u8 = 2;
+
+/// What fillers of audio repeat.
+#[derive(Clone, Copy)]
+pub struct Sound<'a> {
+    /// How long each frame is.
+    pub length: FrameLength,
+    /// The silent frame, if the codec has one.
+    pub silent: Option<&'a [u8]>,
+}
 
 /// The silent frame with this number of channels.
 fn find_frame_of_channels(count: u8) -> Option<&'static [u8]>
@@ -54,4 +64,38 @@ pub fn silent_frame(init: &[u8]) -> Option<&'static [u8]>
         return None;
     }
     find_frame_of_codec(format.codec, format.kind)
+}
+
+/// How long a codec's frames are in ticks, of which there are `scale` in a second.
+fn frame_length(scale: u32, frames: AudioFrames) -> FrameLength
+    ensures { result ≡ length_of_frames scale frames }
+{
+    FrameLength {
+        ticks: u64::from(frames.samples) * u64::from(scale),
+        rate: frames.rate,
+    }
+}
+
+/// The sound of fillers of a codec with these frames.
+fn sound_with(scale: u32, format: TrackFormat, frames: AudioFrames) -> Sound<'static>
+    ensures { sound_view result ≡ sound_by scale format frames }
+{
+    Sound {
+        length: frame_length(scale, frames),
+        silent: find_frame_of_codec(format.codec, format.kind),
+    }
+}
+
+/// What fillers of the first track of an init section repeat, where a second has `scale` ticks: None unless the sample entry says how long
+/// a frame is.
+#[tactic(auto, unfolding(crate::specs::Silence::sound_of))]
+pub fn find_sound(scale: u32, init: &[u8]) -> Option<Sound<'static>>
+    ensures { option_map sound_view result ≡ sound_of scale init.now }
+{
+    let track = read_track_format(init, 0)?;
+    if track.encrypted {
+        return None;
+    }
+    let frames = track.frames?;
+    Some(sound_with(scale, track, frames))
 }

@@ -4,3 +4,4 @@ pub use Rattle.hls_mend_laws.proofs.FragmentLaws.{traf-len, moof-len, fragment-l
 pub use Rattle.hls_mend_laws.proofs.TrunLaws.{trun-len}
 pub use Rattle.hls_mend_laws.proofs.SentLaws.{is-filled}
 pub use Rattle.hls_mend_laws.proofs.SampleLaws.{after-row}
+pub use Rattle.hls_mend_laws.proofs.FillerLaws.{frames-below, frames-within}

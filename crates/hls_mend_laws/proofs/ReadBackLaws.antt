@@ -16,7 +16,7 @@ use Rattle.hls_mend_laws.specs.declared.row_format.RowFormat.{RowFormat}
 use Rattle.hls_mend_laws.specs.declared.row_format.SampleDefaults.{SampleDefaults}
 use Rattle.hls_mend_laws.specs.Bytes.{words, Box, boxes_bytes}
 use Rattle.hls_mend_laws.specs.Fragments.{row, Fragment, payload_offset, mfhd_of, tfhd_of, tfdt_of, trun_of, traf_of, moof_of, mdat_of, fragment_bytes, total_size, HasFields}
-use Rattle.hls_mend_laws.specs.FragmentsRead.{split_box, only_box, Front, front_of, TrafParts, traf_parts, moof_parts, UnitParts, with_moof, unit_parts, sample_defaults, row_format, row_sample, rows_samples, run_samples, keeps_offset, keeps_offsets, is_readable, checked_fragment, fragment_from, fragment_of}
+use Rattle.hls_mend_laws.specs.FragmentsRead.{most_samples, split_box, only_box, Front, front_of, TrafParts, traf_parts, moof_parts, UnitParts, with_moof, unit_parts, sample_defaults, row_format, row_sample, rows_samples, run_samples, keeps_offset, keeps_offsets, is_readable, checked_fragment, fragment_from, fragment_of}
 use Rattle.hls_mend_laws.specs.ReadBack.{IsKeptBox, IsComplete, FragmentsAreReadBack}
 use Rattle.hls_mend_laws.proofs.Words.{word-at}
 use Rattle.hls_mend_laws.proofs.BoxLaws.{IsSmallBox, header_of, whole-box, box-read, content-read, rest-read}
@@ -187,7 +187,8 @@ all-kept (s ∷ ss) = all-kept ss
 readable : (f : Fragment) → IsTrun (run_of f) (payload_offset f) f.samples → IsComplete f → is_readable (unit_of f) ≡ true
 readable f t c =
     let count : nat_le (length f.samples) (length f.payload) ≡ true = le-leb (length f.samples) (length f.payload) c.few in
-    rw (c.head, tfdt-fits f.start, fits-trun (run_of f) (payload_offset f) f.samples t, t.count, count) refl
+    let most : nat_le (length f.samples) most_samples ≡ true = le-leb (length f.samples) most_samples c.taken_apart in
+    rw (c.head, tfdt-fits f.start, fits-trun (run_of f) (payload_offset f) f.samples t, t.count, count, most) refl
 
 -- the parts of a complete fragment's unit with its samples are that fragment
 checked : (f : Fragment) → IsComplete f → checked_fragment (unit_of f) f.samples ≡ Some f

@@ -211,10 +211,15 @@ keeps_offsets run ss = list_all (keeps_offset (nat_lt 0 (version_of run))) ss
 abbrev pub traf_fits : TrafParts → Bool
 traf_fits t = tfhd_fits t.head && (tfdt_fits t.time && trun_fits t.run)
 
+-- the most samples of a unit that is taken apart
+abbrev pub most_samples : ℕ
+most_samples = 65536
+
 -- the fields are within their boxes, and there are no more samples than payload bytes, so that a unit never takes more memory than
--- a multiple of its length
+-- a multiple of its length, and no more than are taken apart
 abbrev pub is_readable : UnitParts → Bool
-is_readable u = traf_fits u.moof.traf && nat_le (sample_count u.moof.traf.run) (length u.payload)
+is_readable u =
+    traf_fits u.moof.traf && (nat_le (sample_count u.moof.traf.run) (length u.payload) && nat_le (sample_count u.moof.traf.run) most_samples)
 
 -- the fragment with a unit's parts and these samples
 abbrev pub fragment_with : UnitParts → List Sample → Fragment

@@ -3,7 +3,7 @@ use Rattle.std.specs.Prelude.{◌≡◌, ℕ, ◌+◌, nat_lt, true, false, Bool
 use Rattle.std.specs.List.{list_all}
 use Rattle.hls_mend_laws.specs.declared.presence.Presence.{Presence}
 
--- a unit that starts more than `fill_us` after the newest end of all renditions is ahead of the channel
+-- a unit that starts more than `fill_us` after the channel's end is ahead of the channel
 abbrev pub is_ahead_of : ℕ → ℕ → ℕ → Bool
 is_ahead_of fill_us newest_end_us start_us = nat_lt (newest_end_us + fill_us) start_us
 

@@ -33,12 +33,12 @@ pub fn cut_keeps_rest()
     ensures { CutKeepsRest }
 {}
 
-/// The sample of a filler is a recorded one, with its own bytes.
+/// The sample of a filler is a recorded one, with its own bytes, and isn't larger than it may be.
 pub fn held_repeat_sample()
     ensures { HeldRepeatSample }
 {}
 
-/// Each sample of silence is the silent frame.
+/// Each sample of a filler of repeated frames is the same frame, and together they aren't larger than they may be.
 pub fn silence_repeats_frame()
     ensures { SilenceRepeatsFrame }
 {}
@@ -48,7 +48,7 @@ pub fn held_units_fill()
     ensures { HeldUnitsFill }
 {}
 
-/// A filler of silence covers exactly the ticks that it was made for.
+/// A filler of repeated frames covers exactly the ticks that it was made for.
 pub fn silent_units_fill()
     ensures { SilentUnitsFill }
 {}

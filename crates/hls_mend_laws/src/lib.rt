@@ -7,6 +7,7 @@
 //! body: their contracts are the laws.
 #![tactic(auto)]
 
+pub mod filler;
 pub mod laws;
 pub mod limits;
 pub mod presence;

@@ -7,7 +7,7 @@ use Rattle.hls_mend.proofs.gap.make_fillers.Given as goal
 
 abbrev pub invariant-fillers : goal.invariant-fillers
 invariant-fillers l = record {
-  same : l.fillers.items ++ fillers_from l.left l.init (source_view l.source) l.next l.end ≡ fillers_from 4096 l.init (source_view l.source) l.start l.end;
+  same : l.fillers.items ++ fillers_from l.left l.init (source_view l.source) l.len l.next l.end ≡ fillers_from 64 l.init (source_view l.source) l.len l.start l.end;
   valid : All (λ u. IsUnit l.init u.bytes u.facts) l.fillers.items;
 }
 
