@@ -28,36 +28,37 @@ unfolding serve_app journal_app options_app server_app channel_app timing_app
 serve_is_simple_and_free = refl
 
 -- the texts of these arguments, in the order of the fields
-abbrev texts_from : Option Text → Option Text → Option Text → Option Text → Option Text → Option Text → Option Text → Option Text → Option Text → Option Text → Option Text → Option Text → Option Text → Option Text → Option Text → Option Text → Option Text → Option Text → Option (List Text) → Texts
-texts_from a b c d u e f g h i j m q r s w v k l = record { target = a; preferred = b; window = c; keep = d; live = u; epoch = e; workers = f; connections = g; planners = h; idle_timeout_s = i; log = j; run = m; mend = q; snap = r; fill = s; wait = w; job_life = v; address = k; renditions = l }
+abbrev texts_from : Option Text → Option Text → Option Text → Option Text → Option Text → Option Text → Option Text → Option Text → Option Text → Option Text → Option Text → Option Text → Option Text → Option Text → Option Text → Option Text → Option Text → Option Text → Option Text → Option (List Text) → Texts
+texts_from a b c d u e f g h i j m q r s w v z k l = record { target = a; preferred = b; window = c; keep = d; live = u; epoch = e; workers = f; connections = g; planners = h; idle_timeout_s = i; log = j; run = m; mend = q; snap = r; fill = s; wait = w; job_life = v; unit_rate = z; address = k; renditions = l }
 
 -- equal arguments make equal texts
-same_texts : (a a' b b' c c' d d' u u' e e' f f' g g' h h' i i' j j' m m' q q' r r' s s' w w' v v' k k' : Option Text) (l l' : Option (List Text)) → a ≡ a' → b ≡ b' → c ≡ c' → d ≡ d' → u ≡ u' → e ≡ e' → f ≡ f' → g ≡ g' → h ≡ h' → i ≡ i' → j ≡ j' → m ≡ m' → q ≡ q' → r ≡ r' → s ≡ s' → w ≡ w' → v ≡ v' → k ≡ k' → l ≡ l'
-    → texts_from a b c d u e f g h i j m q r s w v k l ≡ texts_from a' b' c' d' u' e' f' g' h' i' j' m' q' r' s' w' v' k' l'
-same_texts a a' b b' c c' d d' u u' e e' f f' g g' h h' i i' j j' m m' q q' r r' s s' w w' v v' k k' l l' pa pb pc pd pu pe pf pg ph pi pj pm pq pr ps pw pv pk pl =
-    ap (λ (x : Option Text). texts_from x b c d u e f g h i j m q r s w v k l) pa ∙
-    ap (λ (x : Option Text). texts_from a' x c d u e f g h i j m q r s w v k l) pb ∙
-    ap (λ (x : Option Text). texts_from a' b' x d u e f g h i j m q r s w v k l) pc ∙
-    ap (λ (x : Option Text). texts_from a' b' c' x u e f g h i j m q r s w v k l) pd ∙
-    ap (λ (x : Option Text). texts_from a' b' c' d' x e f g h i j m q r s w v k l) pu ∙
-    ap (λ (x : Option Text). texts_from a' b' c' d' u' x f g h i j m q r s w v k l) pe ∙
-    ap (λ (x : Option Text). texts_from a' b' c' d' u' e' x g h i j m q r s w v k l) pf ∙
-    ap (λ (x : Option Text). texts_from a' b' c' d' u' e' f' x h i j m q r s w v k l) pg ∙
-    ap (λ (x : Option Text). texts_from a' b' c' d' u' e' f' g' x i j m q r s w v k l) ph ∙
-    ap (λ (x : Option Text). texts_from a' b' c' d' u' e' f' g' h' x j m q r s w v k l) pi ∙
-    ap (λ (x : Option Text). texts_from a' b' c' d' u' e' f' g' h' i' x m q r s w v k l) pj ∙
-    ap (λ (x : Option Text). texts_from a' b' c' d' u' e' f' g' h' i' j' x q r s w v k l) pm ∙
-    ap (λ (x : Option Text). texts_from a' b' c' d' u' e' f' g' h' i' j' m' x r s w v k l) pq ∙
-    ap (λ (x : Option Text). texts_from a' b' c' d' u' e' f' g' h' i' j' m' q' x s w v k l) pr ∙
-    ap (λ (x : Option Text). texts_from a' b' c' d' u' e' f' g' h' i' j' m' q' r' x w v k l) ps ∙
-    ap (λ (x : Option Text). texts_from a' b' c' d' u' e' f' g' h' i' j' m' q' r' s' x v k l) pw ∙
-    ap (λ (x : Option Text). texts_from a' b' c' d' u' e' f' g' h' i' j' m' q' r' s' w' x k l) pv ∙
-    ap (λ (x : Option Text). texts_from a' b' c' d' u' e' f' g' h' i' j' m' q' r' s' w' v' x l) pk ∙
-    ap (λ (x : Option (List Text)). texts_from a' b' c' d' u' e' f' g' h' i' j' m' q' r' s' w' v' k' x) pl
+same_texts : (a a' b b' c c' d d' u u' e e' f f' g g' h h' i i' j j' m m' q q' r r' s s' w w' v v' z z' k k' : Option Text) (l l' : Option (List Text)) → a ≡ a' → b ≡ b' → c ≡ c' → d ≡ d' → u ≡ u' → e ≡ e' → f ≡ f' → g ≡ g' → h ≡ h' → i ≡ i' → j ≡ j' → m ≡ m' → q ≡ q' → r ≡ r' → s ≡ s' → w ≡ w' → v ≡ v' → z ≡ z' → k ≡ k' → l ≡ l'
+    → texts_from a b c d u e f g h i j m q r s w v z k l ≡ texts_from a' b' c' d' u' e' f' g' h' i' j' m' q' r' s' w' v' z' k' l'
+same_texts a a' b b' c c' d d' u u' e e' f f' g g' h h' i i' j j' m m' q q' r r' s s' w w' v v' z z' k k' l l' pa pb pc pd pu pe pf pg ph pi pj pm pq pr ps pw pv pz pk pl =
+    ap (λ (x : Option Text). texts_from x b c d u e f g h i j m q r s w v z k l) pa ∙
+    ap (λ (x : Option Text). texts_from a' x c d u e f g h i j m q r s w v z k l) pb ∙
+    ap (λ (x : Option Text). texts_from a' b' x d u e f g h i j m q r s w v z k l) pc ∙
+    ap (λ (x : Option Text). texts_from a' b' c' x u e f g h i j m q r s w v z k l) pd ∙
+    ap (λ (x : Option Text). texts_from a' b' c' d' x e f g h i j m q r s w v z k l) pu ∙
+    ap (λ (x : Option Text). texts_from a' b' c' d' u' x f g h i j m q r s w v z k l) pe ∙
+    ap (λ (x : Option Text). texts_from a' b' c' d' u' e' x g h i j m q r s w v z k l) pf ∙
+    ap (λ (x : Option Text). texts_from a' b' c' d' u' e' f' x h i j m q r s w v z k l) pg ∙
+    ap (λ (x : Option Text). texts_from a' b' c' d' u' e' f' g' x i j m q r s w v z k l) ph ∙
+    ap (λ (x : Option Text). texts_from a' b' c' d' u' e' f' g' h' x j m q r s w v z k l) pi ∙
+    ap (λ (x : Option Text). texts_from a' b' c' d' u' e' f' g' h' i' x m q r s w v z k l) pj ∙
+    ap (λ (x : Option Text). texts_from a' b' c' d' u' e' f' g' h' i' j' x q r s w v z k l) pm ∙
+    ap (λ (x : Option Text). texts_from a' b' c' d' u' e' f' g' h' i' j' m' x r s w v z k l) pq ∙
+    ap (λ (x : Option Text). texts_from a' b' c' d' u' e' f' g' h' i' j' m' q' x s w v z k l) pr ∙
+    ap (λ (x : Option Text). texts_from a' b' c' d' u' e' f' g' h' i' j' m' q' r' x w v z k l) ps ∙
+    ap (λ (x : Option Text). texts_from a' b' c' d' u' e' f' g' h' i' j' m' q' r' s' x v z k l) pw ∙
+    ap (λ (x : Option Text). texts_from a' b' c' d' u' e' f' g' h' i' j' m' q' r' s' w' x z k l) pv ∙
+    ap (λ (x : Option Text). texts_from a' b' c' d' u' e' f' g' h' i' j' m' q' r' s' w' v' x k l) pz ∙
+    ap (λ (x : Option Text). texts_from a' b' c' d' u' e' f' g' h' i' j' m' q' r' s' w' v' z' x l) pk ∙
+    ap (λ (x : Option (List Text)). texts_from a' b' c' d' u' e' f' g' h' i' j' m' q' r' s' w' v' z' k' x) pl
 
 -- the texts among the matches are those of their rows
 texts-rows : (found : Found) → texts_in found ≡ texts_of (rows_of found)
-texts-rows found = same_texts _ _ _ _ _ _ _ _ _ _ _ _ _ _ _ _ _ _ _ _ _ _ _ _ _ _ _ _ _ _ _ _ _ _ _ _ _ _
+texts-rows found = same_texts _ _ _ _ _ _ _ _ _ _ _ _ _ _ _ _ _ _ _ _ _ _ _ _ _ _ _ _ _ _ _ _ _ _ _ _ _ _ _ _
     (first_value-rows found (codes "target"))
     (first_value-rows found (codes "preferred"))
     (first_value-rows found (codes "window"))
@@ -75,6 +76,7 @@ texts-rows found = same_texts _ _ _ _ _ _ _ _ _ _ _ _ _ _ _ _ _ _ _ _ _ _ _ _ _ 
     (first_value-rows found (codes "fill"))
     (first_value-rows found (codes "wait"))
     (first_value-rows found (codes "job-life"))
+    (first_value-rows found (codes "unit-rate"))
     (first_value-rows found (codes "address"))
     (raw_values-rows found (codes "renditions"))
 

@@ -38,9 +38,9 @@ channel_app = with_rule timing_app (value_rule (codes "epoch"))
 unfoldable pub server_app : App
 server_app = with_rule (with_rule (with_rule (with_rule (with_rule (with_rule (with_rule channel_app (value_rule (codes "workers"))) (value_rule (codes "connections"))) (value_rule (codes "planners"))) (value_rule (codes "patience"))) (value_rule (codes "log"))) (value_rule (codes "run"))) (value_rule (codes "base"))
 
--- the command with those of mending and of the life of jobs as well
+-- the command with those of mending, of the life of jobs and of the rate of units as well
 unfoldable pub options_app : App
-options_app = with_rule (with_rule (with_rule (with_rule (with_rule server_app (flag_rule (codes "mend"))) (value_rule (codes "snap"))) (value_rule (codes "fill"))) (value_rule (codes "wait"))) (value_rule (codes "job-life"))
+options_app = with_rule (with_rule (with_rule (with_rule (with_rule (with_rule server_app (flag_rule (codes "mend"))) (value_rule (codes "snap"))) (value_rule (codes "fill"))) (value_rule (codes "wait"))) (value_rule (codes "job-life"))) (value_rule (codes "unit-rate"))
 
 -- the command with those of the journal as well
 unfoldable pub journal_app : App
@@ -70,6 +70,7 @@ texts_in found = record {
   fill = first_value found (codes "fill");
   wait = first_value found (codes "wait");
   job_life = first_value found (codes "job-life");
+  unit_rate = first_value found (codes "unit-rate");
   address = first_value found (codes "address");
   renditions = option_map raw_values (matched_of found (codes "renditions"));
 }
@@ -109,6 +110,7 @@ texts_of rows = record {
   fill = first_of (codes "fill") rows;
   wait = first_of (codes "wait") rows;
   job_life = first_of (codes "job-life") rows;
+  unit_rate = first_of (codes "unit-rate") rows;
   address = first_of (codes "address") rows;
   renditions = all_of (codes "renditions") rows;
 }

@@ -1,7 +1,7 @@
 -- The settings of `serve` from its arguments, or the first invalid one.
 use Rattle.hls_mend_laws.specs.declared.settings.MendSettings.{MendSettings}
 use Rattle.hls_settings.specs.Flags.{is_set}
-use Rattle.std.specs.Prelude.{ℕ, ◌*◌, List, Option, Some, None, Bool, true, false, ◌&&◌, ◌||◌, is_some, option_and_then, cond, codes, Result, Ok, Err}
+use Rattle.std.specs.Prelude.{ℕ, ◌*◌, List, Option, Some, None, Bool, true, false, ◌&&◌, ◌||◌, is_some, option_and_then, unwrap_or, cond, codes, Result, Ok, Err}
 use Rattle.std.specs.Prelude.{ℤ, option_map, pos, int_le}
 use Rattle.std.specs.Borrow.{Bor}
 use Rattle.std.specs.Str.{bytes_eq}
@@ -32,27 +32,39 @@ three_targets target = target * 3000000
 
 -- ---- durations
 
+-- the length of the window by `--window` and `--live`: where `--live` alone is given, the window has no length of its own, and is all that
+-- is kept
+abbrev pub window_in : ℕ → Option Text → Option Text → Option (Option ℕ)
+window_in target None (Some live) = Some None
+window_in target None None = option_map Some (number_or_default (three_targets target) most_number 30000000 None)
+window_in target (Some text) live = option_map Some (number_or_default (three_targets target) most_number 30000000 (Some text))
+
 -- the durations, given how much the live playlists by paths show: from three target durations to the window, or all of it
 abbrev pub timing_showing : ℕ → ℕ → ℕ → ℕ → Option (Option ℕ) → Result WindowSettings SettingsFault
 timing_showing target preferred window keep None = Err faults.Live
 timing_showing target preferred window keep (Some shown) =
     Ok (record { target = target; preferred = preferred; window = window; keep = keep; shown_us = shown })
 
--- the durations, or the first fault of `--keep` and `--live`
-abbrev pub timing_with : ℕ → ℕ → ℕ → Option ℕ → Option Text → Result WindowSettings SettingsFault
+-- the durations, or the fault of `--live`
+abbrev pub timing_kept : ℕ → ℕ → ℕ → ℕ → Option Text → Result WindowSettings SettingsFault
+timing_kept target preferred window keep live = timing_showing target preferred window keep (optional_number (three_targets target) window live)
+
+-- the durations, by the length of the window, or what is kept if it has none of its own, or the first fault of `--keep` and `--live`
+abbrev pub timing_with : ℕ → ℕ → Option ℕ → Option ℕ → Option Text → Result WindowSettings SettingsFault
 timing_with target preferred window None live = Err faults.Keep
-timing_with target preferred window (Some keep) live = timing_showing target preferred window keep (optional_number (three_targets target) window live)
+timing_with target preferred window (Some keep) live = timing_kept target preferred (unwrap_or window keep) keep live
 
 -- the durations, or the first fault of `--window` and those after it
-abbrev pub timing_after : ℕ → ℕ → Option ℕ → Option Text → Option Text → Result WindowSettings SettingsFault
+abbrev pub timing_after : ℕ → ℕ → Option (Option ℕ) → Option Text → Option Text → Result WindowSettings SettingsFault
 timing_after target preferred None keep live = Err faults.Window
-timing_after target preferred (Some window) keep live = timing_with target preferred window (number_or_default window most_number 3600000000 keep) live
+timing_after target preferred (Some window) keep live =
+    timing_with target preferred window (number_or_default (unwrap_or window (three_targets target)) most_number 3600000000 keep) live
 
 -- the durations, or the first fault of `--preferred` and those after it
 abbrev pub timing_by : ℕ → Option ℕ → Option Text → Option Text → Option Text → Result WindowSettings SettingsFault
 timing_by target None window keep live = Err faults.Preferred
 timing_by target (Some preferred) window keep live =
-    timing_after target preferred (number_or_default (three_targets target) most_number 30000000 window) keep live
+    timing_after target preferred (window_in target window live) keep live
 
 -- the durations, or the first fault of `--target` and those after it
 abbrev pub timing_in : Option ℕ → Option Text → Option Text → Option Text → Option Text → Result WindowSettings SettingsFault
@@ -122,6 +134,7 @@ pub record Texts : Type 0 where
   pub fill : Option Text
   pub wait : Option Text
   pub job_life : Option Text
+  pub unit_rate : Option Text
   pub address : Option Text
   pub renditions : Option (List Text)
 
@@ -166,21 +179,30 @@ wait_of text = number_or_default 1 3600 5 text
 abbrev pub job_life_of : Option Text → Option (Option ℕ)
 job_life_of text = optional_number 1 86400 text
 
--- the settings of a server, or the fault of its address
-abbrev pub server_with : WindowSettings → Option ℤ → ThreadSettings → Bool → Option (List ℕ) → Option MendSettings → ℕ → Option ℕ → Option ListenAddress → Result ServerSettings SettingsFault
-server_with timing epoch workers logs run mending wait life None = Err faults.Address
-server_with timing epoch workers logs run mending wait life (Some address) =
-    Ok (record { timing = timing; epoch = epoch; workers = workers; logs_requests = logs; run = run; mending = mending; wait_s = wait; job_life_s = life; address = address })
+-- how many units a second a rendition may get; 500 if it isn't given
+abbrev pub unit_rate_of : Option Text → Option ℕ
+unit_rate_of text = number_or_default 0 1000000 500 text
 
--- the settings of a server, or the first fault of `--job-life` and the address
-abbrev pub server_living : WindowSettings → Option ℤ → ThreadSettings → Bool → Option (List ℕ) → Option MendSettings → ℕ → Option (Option ℕ) → Option Text → Result ServerSettings SettingsFault
-server_living timing epoch workers logs run mending wait None address = Err faults.JobLife
-server_living timing epoch workers logs run mending wait (Some life) address = server_with timing epoch workers logs run mending wait life (address_in address)
+-- the settings of a server, or the fault of its address
+abbrev pub server_with : WindowSettings → Option ℤ → ThreadSettings → Bool → Option (List ℕ) → Option MendSettings → ℕ → Option ℕ → ℕ → Option ListenAddress → Result ServerSettings SettingsFault
+server_with timing epoch workers logs run mending wait life rate None = Err faults.Address
+server_with timing epoch workers logs run mending wait life rate (Some address) =
+    Ok (record { timing = timing; epoch = epoch; workers = workers; logs_requests = logs; run = run; mending = mending; wait_s = wait; job_life_s = life; unit_rate = rate; address = address })
+
+-- the settings of a server, or the first fault of `--unit-rate` and the address
+abbrev pub server_rated : WindowSettings → Option ℤ → ThreadSettings → Bool → Option (List ℕ) → Option MendSettings → ℕ → Option ℕ → Option ℕ → Option Text → Result ServerSettings SettingsFault
+server_rated timing epoch workers logs run mending wait life None address = Err faults.UnitRate
+server_rated timing epoch workers logs run mending wait life (Some rate) address = server_with timing epoch workers logs run mending wait life rate (address_in address)
+
+-- the settings of a server, or the first fault of `--job-life` and what is decided after it
+abbrev pub server_living : WindowSettings → Option ℤ → ThreadSettings → Bool → Option (List ℕ) → Option MendSettings → ℕ → Option (Option ℕ) → Texts → Result ServerSettings SettingsFault
+server_living timing epoch workers logs run mending wait None t = Err faults.JobLife
+server_living timing epoch workers logs run mending wait (Some life) t = server_rated timing epoch workers logs run mending wait life (unit_rate_of t.unit_rate) t.address
 
 -- the settings of a server, or the first fault of `--wait` and what is decided after it
 abbrev pub server_waiting : WindowSettings → Option ℤ → ThreadSettings → Bool → Option (List ℕ) → Option MendSettings → Option ℕ → Texts → Result ServerSettings SettingsFault
 server_waiting timing epoch workers logs run mending None t = Err faults.Wait
-server_waiting timing epoch workers logs run mending (Some wait) t = server_living timing epoch workers logs run mending wait (job_life_of t.job_life) t.address
+server_waiting timing epoch workers logs run mending (Some wait) t = server_living timing epoch workers logs run mending wait (job_life_of t.job_life) t
 
 -- the settings of a server, or the first fault of mending and what is decided after it
 abbrev pub server_mending : WindowSettings → Option ℤ → ThreadSettings → Bool → Option (List ℕ) → Result (Option MendSettings) SettingsFault → Texts → Result ServerSettings SettingsFault

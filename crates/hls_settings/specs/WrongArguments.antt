@@ -101,7 +101,7 @@ wrong_argument os free arguments = wrong_after os free [] arguments
 abbrev pub serve_options : OptionTable
 serve_options = map (λ name. (name, true)) (codes "target" ∷ codes "preferred" ∷ codes "window" ∷ codes "keep" ∷ codes "live" ∷ codes "epoch" ∷ codes "workers"
     ∷ codes "connections" ∷ codes "planners" ∷ codes "patience" ∷ codes "log" ∷ codes "run" ∷ codes "base" ∷ [])
-    ++ (codes "mend", false) ∷ (codes "snap", true) ∷ (codes "fill", true) ∷ (codes "wait", true) ∷ (codes "job-life", true)
+    ++ (codes "mend", false) ∷ (codes "snap", true) ∷ (codes "fill", true) ∷ (codes "wait", true) ∷ (codes "job-life", true) ∷ (codes "unit-rate", true)
     ∷ (codes "journal", true) ∷ (codes "sync", true) ∷ (codes "journal-lost", true) ∷ (codes "anew", false) ∷ []
 
 -- the options of `cut`

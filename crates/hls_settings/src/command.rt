@@ -8,7 +8,7 @@ use clap::{Arg, ArgAction, Command};
 use std::alloc::{AllocError, Global};
 
 /// The options by their long names, and whether each takes a value.
-pub const OPTIONS: [(&str, bool); 22] = [
+pub const OPTIONS: [(&str, bool); 23] = [
     ("target", true),
     ("preferred", true),
     ("window", true),
@@ -27,6 +27,7 @@ pub const OPTIONS: [(&str, bool); 22] = [
     ("fill", true),
     ("wait", true),
     ("job-life", true),
+    ("unit-rate", true),
     ("journal", true),
     ("sync", true),
     ("journal-lost", true),

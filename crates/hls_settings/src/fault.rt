@@ -14,7 +14,7 @@ pub enum SettingsFault {
     Preferred,
     /// `--window` is shorter than three target durations.
     Window,
-    /// `--keep` is shorter than the window.
+    /// `--keep` is shorter than the window, or than three target durations.
     Keep,
     /// `--live` is shorter than three target durations, or longer than the window.
     Live,
@@ -42,6 +42,8 @@ pub enum SettingsFault {
     Wait,
     /// `--job-life` isn't 1 to 86400 seconds.
     JobLife,
+    /// `--unit-rate` isn't 0 to 1000000 units a second.
+    UnitRate,
     /// The address isn't `a.b.c.d:port` in decimal.
     Address,
     /// The index of the first rendition that isn't `name:kind:bandwidth:tolerance`, is outside its limits, or has the name of an

@@ -2,14 +2,14 @@
 ghost use Rattle.std.specs.Prelude.{◌≡◌, IfOk, Some};
 ghost use Rattle.hls_core_laws.specs.Config.{IsEpoch, IsTarget, IsPreferred};
 ghost use Rattle.clap.specs.Words.{found_of};
-ghost use Rattle.hls_settings.specs.Settings.{address_in, job_life_of, log_of, run_of, server_from, server_settings_of, text_of};
+ghost use Rattle.hls_settings.specs.Settings.{address_in, job_life_of, log_of, run_of, server_from, server_settings_of, text_of, unit_rate_of};
 ghost use Rattle.hls_settings.specs.Command.{mending_found, texts_in, timing_found, workers_found};
 
 use crate::epoch::read_epoch;
 use crate::fault::SettingsFault;
 use crate::listen_address::{ListenAddress, read_address};
 use crate::mending::{read_mending, read_wait};
-use crate::number::optional_number;
+use crate::number::{number_or_default, optional_number};
 use crate::thread_settings::{ThreadSettings, read_thread_settings};
 use crate::window_settings::{WindowSettings, read_window_settings};
 use clap::ArgMatches;
@@ -33,6 +33,8 @@ pub struct ServerSettings {
     pub wait_s: u32,
     /// After how many seconds without a use a finished job is removed, if it is.
     pub job_life_s: Option<u64>,
+    /// How many units a second a rendition's encoders may send, averaged over ten seconds; 0 if its rates aren't limited.
+    pub unit_rate: u64,
     pub address: ListenAddress,
 }
 
@@ -61,6 +63,13 @@ fn read_job_life(text: Option<&str>) -> Option<Option<u64>>
     ensures { result ≡ job_life_of (text_of text.entry) }
 {
     optional_number(1, 86400, text)
+}
+
+/// Returns how many units a second a rendition may get; `None` if the text isn't 0 to 1000000.
+fn read_unit_rate(text: Option<&str>) -> Option<u64>
+    ensures { result ≡ unit_rate_of (text_of text.entry) }
+{
+    number_or_default(0, 1_000_000, 500, text)
 }
 
 fn read_listen_address(text: Option<&str>) -> Option<ListenAddress>
@@ -130,6 +139,9 @@ fn build_server_settings(
     let Some(job_life_s) = read_job_life(matches.get_str("job-life")) else {
         return Err(SettingsFault::JobLife);
     };
+    let Some(unit_rate) = read_unit_rate(matches.get_str("unit-rate")) else {
+        return Err(SettingsFault::UnitRate);
+    };
     let Some(address) = read_listen_address(matches.get_str("address")) else {
         return Err(SettingsFault::Address);
     };
@@ -142,6 +154,7 @@ fn build_server_settings(
         mending,
         wait_s,
         job_life_s,
+        unit_rate,
         address,
     })
 }

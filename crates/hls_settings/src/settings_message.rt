@@ -86,10 +86,10 @@ impl<'a, S: AsStr> Display for SettingsMessage<'a, SettingsFault, S> {
                 "--preferred takes 1 to the target, in microseconds (4000000 if not given): with a target below 4, give it"
             }
             SettingsFault::Window => {
-                "--window takes three targets or more, in microseconds (30000000 if not given): with a target above 10, give it"
+                "--window takes three targets or more, in microseconds (30000000 if neither it nor --live is given): with a target above 10, give it"
             }
             SettingsFault::Keep => {
-                "--keep takes the window or more, in microseconds (3600000000 if not given)"
+                "--keep takes the window, or three targets, or more, in microseconds (3600000000 if not given)"
             }
             SettingsFault::Live => {
                 "--live takes three targets to the window, in microseconds (the window if not given)"
@@ -108,6 +108,8 @@ impl<'a, S: AsStr> Display for SettingsMessage<'a, SettingsFault, S> {
             SettingsFault::Unmended => "--snap, --fill and --wait need --mend",
             SettingsFault::Wait => "--wait takes 1 to 3600 whole seconds (5 if not given)",
             SettingsFault::JobLife => "--job-life takes 1 to 86400 whole seconds",
+            SettingsFault::UnitRate =>
+                "--unit-rate takes 0 to 1000000 units a second (500 if not given)",
             SettingsFault::Address => {
                 "give an address a.b.c.d:port before the renditions, as in 127.0.0.1:8080, without leading zeros"
             }
