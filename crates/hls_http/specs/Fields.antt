@@ -1,6 +1,6 @@
 -- What the header fields say, as a function of their names and values.
-use Rattle.std.specs.Prelude.{ℕ, Bool, ◌&&◌, ◌||◌, cond, ◌==◌, nat_eq, ◌-◌, List, [], ◌∷◌, length, take, drop, Option, None, codes, bytes_eq}
-use Rattle.std.specs.{List.{list_any, prefix_len, slice_split, suffix_len}, Char.is_ascii_whitespace, Str.str_eq_ignore_ascii_case}
+use Rattle.std.specs.Prelude.{ℕ, ◌+◌, ◌*◌, ◌%◌, ◌^◌, Bool, ◌&&◌, ◌||◌, cond, ◌==◌, nat_eq, ◌-◌, List, [], ◌∷◌, length, take, drop, Option, None, codes, bytes_eq}
+use Rattle.std.specs.{List.{fold, list_any, prefix_len, slice_split, suffix_len}, Char.is_ascii_whitespace, Str.str_eq_ignore_ascii_case}
 use Rattle.hls_text.specs.Digits.{number_of_digits}
 use Rattle.hls_http.specs.Limits.{length_digits}
 
@@ -62,3 +62,13 @@ abbrev pub wait_of_values : List (List ℕ) → Option ℕ
 wait_of_values [] = None
 wait_of_values (value ∷ []) = wait_of_value value
 wait_of_values (value ∷ other ∷ more) = None
+
+-- the number of a client's name, byte by byte
+abbrev pub client_of_value : List ℕ → ℕ
+client_of_value name = fold (λ number byte. (number * 1099511628211 % 2 ^ 64 + byte) % 2 ^ 64) 0 name
+
+-- the number of the client that the X-Client fields name; 0 without the field, and several fields are ignored
+abbrev pub client_of_values : List (List ℕ) → ℕ
+client_of_values [] = 0
+client_of_values (name ∷ []) = client_of_value name
+client_of_values (name ∷ other ∷ more) = 0

@@ -5,7 +5,7 @@ use Rattle.httparse.specs.{Grammar.{RequestHead, NeverHasRequest}, Spans.span_by
 use Rattle.hls_io.specs.Failures.{FailuresRose}
 use Rattle.hls_http.specs.{declared.head.ParsedHead.ParsedHead, declared.head.HeadFault.HeadFault, declared.head.HeadEnd.HeadEnd}
 use Rattle.hls_http.specs.{Heads.{ReadsLimitedHead, IsUnfinished, IsTooLarge}, Methods.method_of, Range.range_of_values}
-use Rattle.hls_http.specs.{Fields.{closes_connection, expects, values, wait_of_values}, Requests.{framing_of_head, fields_of}}
+use Rattle.hls_http.specs.{Fields.{client_of_values, closes_connection, expects, values, wait_of_values}, Requests.{framing_of_head, fields_of}}
 use Rattle.hls_http.specs.declared.head.HeadFault.TheVariants.{Partial, Invalid, TooLarge}
 use Rattle.hls_http.specs.declared.head.HeadEnd.TheVariants.{Closed, CutShort, BadHead, HeadTooLarge, ReadFailed}
 
@@ -20,6 +20,7 @@ pub record IsHead (h : RequestHead) (head : ParsedHead) (text : List ℕ) : Type
   pub closes : head.closes ≡ closes_connection h.minor (fields_of h)
   pub range : head.range ≡ range_of_values (values (codes "range") (fields_of h))
   pub wait : head.wait ≡ wait_of_values (values (codes "prefer") (fields_of h))
+  pub client : head.client ≡ client_of_values (values (codes "x-client") (fields_of h))
 
 -- the text begins with a head within the limits, which the parsed head describes by the bytes kept of it
 pub record FoundHead (text : List ℕ) (head : ParsedHead) (taken rest : List ℕ) : Type 0 where

@@ -1,8 +1,8 @@
-//! The header fields that matter for framing, for the connection, for ranges and for waiting.
+//! The header fields that matter for framing, for the connection, for ranges, for waiting, and for fairness between clients.
 
 ghost use Rattle.std.specs.Prelude.{◌≡◌, length, All, option_map, codes};
 ghost use Rattle.httparse.specs.Spans.{IsHeaderWithin, header_bytes};
-ghost use Rattle.hls_http.specs.{Fields.{closes_connection, expects, has_word, is_word, length_of, values, wait_of_value, wait_of_values}, Range.range_of_values};
+ghost use Rattle.hls_http.specs.{Fields.{client_of_value, client_of_values, closes_connection, expects, has_word, is_word, length_of, values, wait_of_value, wait_of_values}, Range.range_of_values};
 ghost use Rattle.hls_http.specs.Framing.{checked_framing, is_chunked, has_host, framing_of_lengths};
 ghost use Rattle.hls_http.specs.Values.{IsSingleField, NextValue, fields_at, named_value, values_from};
 
@@ -13,6 +13,9 @@ use crate::range_field::parse_range;
 use crate::range_spec::RangeSpec;
 use hls_text::parse_digits;
 use httparse::spans::HeaderSpan;
+
+/// The factor by which a client's number is made of its name.
+const CLIENT_FACTOR: u64 = 1_099_511_628_211;
 
 /// Returns the value of a field, if it has this name.
 fn value_named<'a>(text: &'a [u8], header: &HeaderSpan, name: &[u8]) -> Option<&'a [u8]>
@@ -216,5 +219,27 @@ pub fn parse_wait_field(text: &[u8], headers: &[HeaderSpan]) -> Option<u64>
     match find_single_field(text, headers, b"prefer") {
         SingleField::One(value) => parse_wait(value),
         _ => None,
+    }
+}
+
+/// Returns the number of a client's name. Two names with one number are taken for one client.
+fn number_client(name: &[u8]) -> u64
+    ensures { result ≡ client_of_value name.now }
+{
+    name.iter().fold(0u64, |number, byte| {
+        number
+            .wrapping_mul(CLIENT_FACTOR)
+            .wrapping_add(u64::from(*byte))
+    })
+}
+
+/// Returns the number of the client that the X-Client field names; 0 if there is no such field, or several.
+pub fn parse_client_field(text: &[u8], headers: &[HeaderSpan]) -> u64
+    requires { All (IsHeaderWithin (length text.now)) headers.now }
+    ensures { result ≡ client_of_values (values (codes "x-client") (fields_at text.now headers.now)) }
+{
+    match find_single_field(text, headers, b"x-client") {
+        SingleField::One(name) => number_client(name),
+        _ => 0,
     }
 }

@@ -6,7 +6,8 @@ ghost use Rattle.hls_http.specs.ReadHeads.{FindsHead, IsHead};
 
 use crate::fault::HttpFault;
 use crate::fields::{
-    closes_connection, expects_continue, parse_framing, parse_range_field, parse_wait_field,
+    closes_connection, expects_continue, parse_client_field, parse_framing, parse_range_field,
+    parse_wait_field,
 };
 use crate::framing::BodyFraming;
 use crate::limits::{MOST_FIELDS, MOST_HEAD};
@@ -32,6 +33,8 @@ pub struct ParsedHead {
     pub range: RangeSpec,
     /// How many seconds its Prefer field lets the response wait; none if it says nothing of that.
     pub wait: Option<u64>,
+    /// The number of the client that its X-Client field names; 0 if there is no such field.
+    pub client: u64,
 }
 
 /// Why a text doesn't begin with a head.
@@ -75,6 +78,7 @@ fn summarize_head(text: &[u8], headers: &[HeaderSpan], spans: &RequestSpans) -> 
         closes: closes_connection(text, found, minor),
         range: parse_range_field(text, found),
         wait: parse_wait_field(text, found),
+        client: parse_client_field(text, found),
     }
 }
 

@@ -142,8 +142,23 @@ pub fn write_head(
     Ok(out)
 }
 
+/// Writes a head with room for the content's small slices, or without it if that much can't be allocated.
+fn write_head_with_room(
+    alloc: Global,
+    head: &ResponseParts<'_>,
+    len: u64,
+) -> Result<Vec<u8>, AllocError>
+    ensures { IfOk result (λ v. v.items ≡ head_text_of head.now len) }
+{
+    let room = len.min(MAX_GATHERED_BYTES as u64) as usize;
+    match write_head(alloc, head, len, room) {
+        Ok(text) => Ok(text),
+        Err(_) => write_head(alloc, head, len, 0),
+    }
+}
+
 /// Makes a reply whose content is a part of a resource, which is sent as the resource's own slices; a reply to HEAD has none.
-/// Allocates the head, and room for as many bytes of small slices as are sent at once.
+/// Allocates the head, and room for as many bytes of small slices as are sent at once, if there is memory for it.
 pub fn make_response<M: Resource + Drop>(
     alloc: Global,
     head: &ResponseParts<'_>,
@@ -157,8 +172,7 @@ pub fn make_response<M: Resource + Drop>(
         let text = write_head(alloc, head, len, 0)?;
         return Ok(SendBuffer::from_text(text));
     }
-    let room = len.min(MAX_GATHERED_BYTES as u64) as usize;
-    let text = write_head(alloc, head, len, room)?;
+    let text = write_head_with_room(alloc, head, len)?;
     Ok(SendBuffer::from_range(text, content))
 }
 
