@@ -6,6 +6,8 @@ mod Walks
 mod Right
 mod States
 mod Tables
+mod SameProgrammes
+mod CanonicalTimes
 mod Bounded
 mod Covered
 mod AnswersStay

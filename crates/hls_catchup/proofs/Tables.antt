@@ -21,7 +21,8 @@ use Rattle.hls_catchup.specs.declared.fault.CatchFault.TheVariants.{BeforeRecord
 use Rattle.hls_catchup.specs.KeptPlaces.{PlacesAndFloors, places_and_floors_of, kept_places_from, IsLastBy}
 use Rattle.hls_catchup.specs.Requests.{all_finished, goal_for, IsInRange, IsTableFor}
 use Rattle.hls_catchup.specs.Programmes.{programme_table, ArePlacesFor}
-use Rattle.hls_catchup.proofs.Walks.{after-later, from-later}
+use Rattle.hls_core.specs.KeptPlaces.{IsLastKeptBy}
+use Rattle.hls_catchup.proofs.Walks.{after-later, from-later, kept-from}
 
 -- without places there is no table
 pub placeless : (s : State) (request : Request) (t : Table) → places s ≡ [] → IsTableFor s request (Ok t) → ⊥
@@ -158,8 +159,8 @@ start_before s request range some within =
 
 -- the kept places that were counted, if they are within the limit, are the programme of the request
 pub programme_there : (s : State) (request : Request) (p : Programme) → IsState s → AreSources (sources s) → IsInRange s request →
-    p.places ≡ places_and_floors_of s → IsCounted s request p.from p.count → p.count ≤ place_limit → ArePlacesFor s request p
-programme_there s request p valid are range same_places counted few =
+    p.places ≡ places_and_floors_of s → IsLastKeptBy s request.start_us p.from → IsCounted s request p.from p.count → p.count ≤ place_limit → ArePlacesFor s request p
+programme_there s request p valid are range same_places kept counted few =
     let ks : List Place = kept_places s in
     let a : ℕ = first_after request.start_us ks in
     let to : ℕ = first_from request.stop_us ks in
@@ -177,6 +178,9 @@ programme_there s request p valid are range same_places counted few =
     let span : IsRange ks (a - 1) to = record { order = start_before s request range apart.some within; within = within } in
     record {
       within = subst (λ (k : PlacesAndFloors). p.from ≤ length k.items) (sym same_places) counted.last.within;
+      places_are = same_places;
+      kept = kept;
+      there = omega (arith, counted.there, counted.last.within, ap length (kept-from s valid request.start_us p.from kept), length-drop p.from (places s));
       defined = record {
         in_range = range;
         programme = programme-fits (goal_for s request) ks places_are request.start_us request.stop_us range.order apart.some within

@@ -22,6 +22,18 @@ kept-more floors p ps is = cond-true (is_kept floors p) (p ∷ filter_kept floor
 pub kept-same : (floors : List ℕ) (p : Place) (ps : List Place) → is_kept floors p ≡ false → filter_kept floors (p ∷ ps) ≡ filter_kept floors ps
 kept-same floors p ps is = cond-false (is_kept floors p) (p ∷ filter_kept floors ps) (filter_kept floors ps) is
 
+-- if all places are kept, all are among the kept ones
+pub all-kept : (floors : List ℕ) (ps : List Place) → ((k : ℕ) (p : Place) → slice_get ps k ≡ Some p → is_kept floors p ≡ true) → filter_kept floors ps ≡ ps
+all-kept floors [] kept = refl
+all-kept floors (p ∷ ps) kept =
+    kept-more floors p ps (kept 0 p refl) ∙ ap (λ (qs : List Place). p ∷ qs) (all-kept floors ps (λ k q at. kept (suc k) q at))
+
+-- all places from a kept one on are kept
+pub kept-from : (s : State) → IsState s → (time n : ℕ) → IsLastKeptBy s time n → kept_places_from (places_and_floors_of s) n ≡ drop n (places s)
+kept-from s state time n found =
+    all-kept (floors s) (drop n (places s))
+    (λ k p at. kept-goes-on s state n (n + k) found.place p (omega arith) found.there (sym (at_drop (places s) n k) ∙ at) found.kept)
+
 -- if the first place is after the time, it is the first one after it
 pub after-here : (time : ℕ) (p : Place) (ps : List Place) → nat_lt time (time_of p) ≡ true → first_after time (p ∷ ps) ≡ 0
 after-here time p ps late = rw late refl

@@ -8,6 +8,7 @@ pub mod FaultName
 pub mod AcceptedLaw
 pub mod Answers
 pub mod Requests
+pub mod Canonical
 pub mod AnswerLaws
 pub mod Replies
 pub mod Resources

@@ -21,7 +21,7 @@ returns-then-count-gt-PLACE_LIMIT c =
 pub returns : goal.returns
 returns c =
     programme_there c.args.snapshot.now c.args.request (record { places = c.new-places.result; from = c.in-Some.from; count = c.in-Some-count_places.count })
-    c.new-places.ensures.valid c.new-places.ensures.sources c.requires c.new-places.ensures.value
+    c.new-places.ensures.valid c.new-places.ensures.sources c.requires c.new-places.ensures.value c.in-Some.ensures
     (record {
       last = last-is c.args.snapshot.now c.args.request.start_us c.in-Some.from c.in-Some.ensures;
       count_is = c.in-Some-count_places.ensures.0;
