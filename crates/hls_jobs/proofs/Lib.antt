@@ -10,6 +10,7 @@ mod Lists
 mod ListTexts
 mod KeptTexts
 mod PlanCalls
+mod FairTurns
 mod CertificateTexts
 pub mod PathTexts
 mod ProgrammesStay

@@ -1,7 +1,9 @@
--- What callers learn of a table of plans that a lock protects.
-use Rattle.std.proofs.Common.{◌≡◌, ◌≤◌, List, length, IfOk, Result, Ok, Err, ap}
+-- Plans that are inserted, and what callers learn of a table of plans that a lock protects.
+use Rattle.std.proofs.Common.{◌≡◌, ℕ, zero, suc, ◌<◌, ◌≤◌, List, [], ◌∷◌, ◌++◌, length, take, drop, Some, IfOk, Result, Ok, Err, ap, arith, refl}
+use Rattle.std.specs.Prelude.{slice_get}
 use Rattle.hls_catchup.specs.declared.request.Request.{Request}
-use Rattle.hls_jobs.specs.Plans.{HasAddedPlan, HasFoundPlan, IsFoundPlan, plan_limit}
+use Rattle.hls_jobs.specs.Plans.{HasAddedPlan, HasFoundPlan, IsFoundPlan}
+use Rattle.hls_jobs.specs.PlanTurns.{IsRefused}
 use Rattle.hls_jobs.specs.declared.plans.FoundPlan.{FoundPlan}
 use Rattle.hls_jobs.specs.declared.plans.FoundPlan.TheVariants.{Missing}
 use Rattle.hls_jobs.specs.declared.plans.PlanRow.{PlanRow}
@@ -11,8 +13,14 @@ pub found_plan : {E : Type 0} (plans : List PlanRow) (request : Request) (result
 found_plan plans request (Ok found) is = record { plans = plans; is = is }
 found_plan plans request (Err e) is = is
 
--- what is found among these plans after adding one is what some table had; it is missing only if as many as may be wait or run
-pub added_plan : {E : Type 0} (plans : List PlanRow) (request : Request) (result : Result FoundPlan E) → IfOk result (IsFoundPlan plans request)
-    → (result ≡ Ok Missing → plan_limit ≤ length plans) → IfOk result (HasAddedPlan request)
-added_plan plans request (Ok found) is full = record { plans = plans; is = is; full = λ same. full (ap Ok same) }
-added_plan plans request (Err e) is full = is
+-- what is found among these plans after adding one is what some table had; it is missing only if it isn't the client's turn
+pub added_plan : {E : Type 0} (plans : List PlanRow) (request : Request) (client : ℕ) (result : Result FoundPlan E) → IfOk result (IsFoundPlan plans request)
+    → (result ≡ Ok Missing → IsRefused client plans) → IfOk result (HasAddedPlan request client)
+added_plan plans request client (Ok found) is full = record { plans = plans; is = is; full = λ same. full (ap Ok same) }
+added_plan plans request client (Err e) is full = is
+
+-- an element that is inserted at an index is there
+pub inserted_there : {X : Type 0} (xs : List X) (i : ℕ) (x : X) → i ≤ length xs → (i < length (take i xs ++ x ∷ drop i xs)) × (slice_get (take i xs ++ x ∷ drop i xs) i ≡ Some x)
+inserted_there xs zero x few = (omega arith, refl)
+inserted_there [] (suc i) x few = absurd (omega (arith, few))
+inserted_there (y ∷ ys) (suc i) x few = let rest = inserted_there ys i x (omega (arith, few)) in (omega (arith, rest.0), rest.1)

@@ -3,6 +3,7 @@
 pub mod ProgrammeLaws
 pub mod Programmes
 pub mod ProgrammeTexts
+pub mod PlanTurns
 pub mod Plans
 pub mod Rows
 pub mod LastUses

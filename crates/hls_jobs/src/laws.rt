@@ -1,5 +1,6 @@
-//! Laws of programmes: each function's contract is the law.
+//! Laws of programmes and their plans: each function's contract is the law.
 
+ghost use Rattle.hls_jobs.specs.PlanTurns.{FirstTurnsAreFair};
 ghost use Rattle.hls_jobs.specs.ProgrammeLaws.{ProgrammeAnswersStay, ProgrammesStay};
 
 use hls_catchup::answers_stay;
@@ -16,3 +17,8 @@ pub fn programme_answers_stay()
 {
     answers_stay();
 }
+
+/// A client's first plan comes after at most one plan of each other client.
+pub fn first_turns_are_fair()
+    ensures { FirstTurnsAreFair }
+{}

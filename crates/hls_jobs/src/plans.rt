@@ -1,20 +1,19 @@
 //! The plans of programmes by address: those that wait for a planner or run, and the texts of those that are finished.
 
-ghost use Rattle.std.specs.Prelude.{◌≡◌, ◌≢◌, ◌<◌, ◌≤◌, All, IfOk, IfSome, MatchOption, Ok, Some, false, length, slice_get, true};
-ghost use Rattle.hls_jobs.specs.Plans.{HasNoPlan, IsFoundPlan, IsPlanAt, IsWaitingPlan, WaitsAsPlan, is_waiting_plan, plan_limit, planned_request};
+ghost use Rattle.std.specs.Prelude.{◌≡◌, ◌≢◌, ◌⊎◌, All, IfOk, IfSome, MatchOption, Ok, Some, false, slice_get, slice_set, true};
+ghost use Rattle.hls_jobs.specs.Plans.{EndsPlan, HasNoPlan, IsFoundPlan, IsPlanAt, IsRowOfWork, IsWaitingPlan, WaitsAsPlan, is_waiting_plan, planned_request};
+ghost use Rattle.hls_jobs.specs.PlanTurns.{AddsPlan, IsRefused};
 ghost use Rattle.hls_jobs.specs.ProgrammeTexts.{IsReplyFor};
 ghost use Rattle.hls_jobs.specs.declared.plans.FoundPlan.TheVariants as founds;
 ghost use Rattle.hls_jobs.specs.declared.plans.PlanRow.TheVariants as rows;
 
+use crate::plan_turns::{MOST_PLANS, count_waiting, find_turn, make_room_for_turn, most_waiting};
 use crate::programme_texts::ProgrammeTexts;
 use hls_catchup::Request;
 use hls_core::snapshot::Snapshot;
 use std::alloc::{AllocError, Global};
 use std::mem;
 use std::sync::Arc;
-
-/// The most plans that wait or run.
-const MOST_PLANS: usize = 64;
 
 /// The most programmes whose texts are kept.
 const MOST_READY: usize = 256;
@@ -25,8 +24,8 @@ const MOST_READY_BYTES: usize = 64 << 20;
 /// A plan that isn't finished.
 #[derive(Drop)]
 pub enum PlanRow {
-    /// Nobody has taken it. The snapshot is the one that was looked at when it was added.
-    Waiting(Arc<Snapshot>, Request),
+    /// Nobody has taken it. The snapshot is the one that was looked at when it was added, for the client of this number.
+    Waiting(Arc<Snapshot>, Request, u64),
     /// A planner has taken it, with its snapshot.
     Running(Request),
 }
@@ -49,7 +48,7 @@ pub struct PlanWork {
     pub request: Request,
 }
 
-/// The plans, in the order in which they were added, and texts of programmes, those that were used last at the end.
+/// The plans, those that wait in the order in which they are taken, and texts of programmes, those that were used last at the end.
 #[derive(Drop)]
 pub struct PlanTable {
     plans: Vec<PlanRow>,
@@ -61,7 +60,7 @@ fn planned_request(row: &PlanRow) -> Request
     ensures { result ≡ planned_request row.now }
 {
     match row {
-        PlanRow::Waiting(_, request) => *request,
+        PlanRow::Waiting(_, request, _) => *request,
         PlanRow::Running(request) => *request,
     }
 }
@@ -98,12 +97,12 @@ fn find_waiting_plan(plans: &[PlanRow]) -> Option<usize>
 /// Starts a plan that waits: its snapshot moves into the work.
 fn start_plan(row: &mut PlanRow) -> PlanWork
     requires { is_waiting_plan row.old ≡ true }
-    ensures waited { row.old ≡ rows.Waiting result.snapshot result.request }
+    ensures waited { IsRowOfWork row.old result }
     ensures runs { row.new ≡ rows.Running result.request }
 {
     let request = planned_request(row);
     match mem::replace(row, PlanRow::Running(request)) {
-        PlanRow::Waiting(snapshot, request) => PlanWork { snapshot, request },
+        PlanRow::Waiting(snapshot, request, _) => PlanWork { snapshot, request },
         PlanRow::Running(_) => unreachable!(),
     }
 }
@@ -111,7 +110,8 @@ fn start_plan(row: &mut PlanRow) -> PlanWork
 /// Starts the plan at an index, which waits.
 fn start_plan_at(plans: &mut Vec<PlanRow>, at: usize) -> PlanWork
     requires { WaitsAsPlan plans.old.items at }
-    ensures { slice_get plans.old.items at ≡ Some (rows.Waiting result.snapshot result.request) }
+    ensures waited { IfSome (slice_get plans.old.items at) (λ row. IsRowOfWork row result) }
+    ensures runs { plans.new.items ≡ slice_set plans.old.items at (rows.Running result.request) }
 {
     let row = &mut plans[at];
     start_plan(row)
@@ -187,47 +187,62 @@ impl PlanTable {
         }
     }
 
-    /// Returns what the table has for a request, after a plan was added if there was neither a plan nor texts. None is added while as many
-    /// wait or run as may.
+    /// Returns what the table has for a request, after a plan was added if there was neither a plan nor texts. Clients take turns: none is
+    /// added while too many wait for this client, or as many wait or run as may and no other client has as many turns.
     pub fn find_or_add(
         &mut self,
         snapshot: &Arc<Snapshot>,
         request: Request,
+        client: u64,
     ) -> Result<FoundPlan, AllocError>
         ensures found { IfOk result (IsFoundPlan self.new.plans.items request) }
-        ensures full { result ≡ Ok founds.Missing → plan_limit ≤ length self.new.plans.items }
+        ensures adds { IfOk result (λ found. (self.new.plans ≡ self.old.plans) ⊎ AddsPlan snapshot.now.value request client self.old.plans.items found self.new.plans.items) }
+        ensures full { result ≡ Ok founds.Missing → IsRefused client self.new.plans.items }
     {
         match self.find(request)? {
             FoundPlan::Ready(texts) => Ok(FoundPlan::Ready(texts)),
             FoundPlan::Unfinished => Ok(FoundPlan::Unfinished),
-            FoundPlan::Missing => self.add(snapshot, request),
+            FoundPlan::Missing => self.add(snapshot, request, client),
         }
     }
 
-    /// Adds a plan for a request that has none, unless as many wait or run as may.
-    fn add(&mut self, snapshot: &Arc<Snapshot>, request: Request) -> Result<FoundPlan, AllocError>
+    /// Adds a plan for a request that has none, in the client's next turn, unless there is no room for it.
+    fn add(
+        &mut self,
+        snapshot: &Arc<Snapshot>,
+        request: Request,
+        client: u64,
+    ) -> Result<FoundPlan, AllocError>
         requires { HasNoPlan request self.old.plans.items }
         ensures found { IfOk result (IsFoundPlan self.new.plans.items request) }
-        ensures full { result ≡ Ok founds.Missing → plan_limit ≤ length self.new.plans.items }
+        ensures adds { IfOk result (λ found. AddsPlan snapshot.now.value request client self.old.plans.items found self.new.plans.items) }
+        ensures full { result ≡ Ok founds.Missing → IsRefused client self.new.plans.items }
     {
-        if self.plans.len() >= MOST_PLANS {
+        let waiting = count_waiting(&self.plans, client);
+        if waiting >= most_waiting(client) {
             return Ok(FoundPlan::Missing);
         }
-        let row = PlanRow::Waiting(Arc::try_clone(snapshot)?, request);
-        self.plans.push(row)?;
+        let row = PlanRow::Waiting(Arc::try_clone(snapshot)?, request, client);
+        if !make_room_for_turn(&mut self.plans, waiting + 1) {
+            return Ok(FoundPlan::Missing);
+        }
+        let at = find_turn(&self.plans, waiting + 1);
+        self.plans.insert(at, row)?;
         Ok(FoundPlan::Unfinished)
     }
 
-    /// Takes the plan that was added first and waits. It runs from then on, until it is finished.
+    /// Takes the plan whose turn it is. It runs from then on, until it is finished.
     pub fn take_work(&mut self) -> Option<PlanWork>
-        ensures { MatchOption result (All (λ row. is_waiting_plan row ≡ false) self.old.plans.items) (IsWaitingPlan self.old.plans.items) }
+        ensures { MatchOption result ((self.new.plans ≡ self.old.plans) × All (λ row. is_waiting_plan row ≡ false) self.old.plans.items) (λ work. IsWaitingPlan self.old.plans.items work self.new.plans.items) }
     {
         let at = find_waiting_plan(&self.plans)?;
         Some(start_plan_at(&mut self.plans, at))
     }
 
     /// Ends a plan, and keeps its texts if there are any.
-    pub fn finish(&mut self, request: Request, made: Option<Arc<ProgrammeTexts>>) {
+    pub fn finish(&mut self, request: Request, made: Option<Arc<ProgrammeTexts>>)
+        ensures { EndsPlan request self.old.plans.items self.new.plans.items }
+    {
         if let Some(at) = find_plan(&self.plans, request) {
             self.plans.remove(at);
         }

@@ -1,6 +1,6 @@
 //! The texts of a programme by its address: a planner makes them once, and they are served until they are dropped.
 
-ghost use Rattle.std.specs.Prelude.{◌≡◌, IfOk, IfSome, IsTrue, Some, option_map, slice_get};
+ghost use Rattle.std.specs.Prelude.{◌≡◌, ℕ, IfOk, IfSome, IsTrue, Some, option_map, slice_get};
 ghost use Rattle.std.specs.Option.{option_copied};
 ghost use Rattle.hls_catchup.specs.Jobs.Files.{certificate_file};
 ghost use Rattle.hls_catchup.specs.Replies.{ReplyData};
@@ -198,13 +198,14 @@ pub(crate) fn run_plan(alloc: Global, work: PlanWork) -> Option<Arc<ProgrammeTex
     }
 }
 
-/// Plans a programme at once, and keeps nothing of it. Fails if it ran out of memory, or if the snapshot doesn't have the programme.
+/// Plans a programme at once, for any client, and keeps nothing of it. Fails if it ran out of memory, or if the snapshot doesn't have the
+/// programme.
 pub fn plan_now(
     alloc: Global,
     snapshot: &Arc<Snapshot>,
     request: Request,
 ) -> Result<FoundPlan, AllocError>
-    ensures added { IfOk result (HasAddedPlan request) }
+    ensures added { (client : ℕ) → IfOk result (HasAddedPlan request client) }
     ensures found { IfOk result (HasFoundPlan request) }
 {
     let texts = plan_texts(alloc, snapshot, request)?;

@@ -121,7 +121,7 @@ impl JobsInner {
 }
 
 /// A job table, and plans of programmes, that threads share. Each call holds the lock only while it works on the table: nothing is planned, written or dropped
-/// under it, except texts of programmes that weren't used for longest. A guard lives to the end of its statement, so what a call returns is dropped after it.
+/// under it, except texts of programmes that weren't used for longest, and a plan that is evicted. A guard lives to the end of its statement, so what a call returns is dropped after it.
 #[derive(Drop)]
 pub struct Jobs {
     inner: Mutex<JobsInner>,
@@ -240,16 +240,22 @@ impl Jobs {
     }
 
     /// Returns what is known of a request's programme; one that nothing is known of is planned from the snapshot, which has it, and a loop
-    /// that waits for work is woken. Not more than 64 plans wait and run. May wait.
+    /// that waits for work is woken. Clients take turns, by their numbers: not more than 64 plans wait and run, and not more than 8 of a
+    /// client wait, unless its number is 0. May wait.
     pub fn find_or_plan<R: Wait>(
         &self,
         rt: &R,
         snapshot: &Arc<Snapshot>,
         request: Request,
+        client: u64,
     ) -> Result<FoundPlan, AllocError>
-        ensures { IfOk result (HasAddedPlan request) }
+        ensures { IfOk result (HasAddedPlan request client) }
     {
-        let found = self.inner.lock(rt).plans.find_or_add(snapshot, request);
+        let found = self
+            .inner
+            .lock(rt)
+            .plans
+            .find_or_add(snapshot, request, client);
         self.notify_planner(&found);
         found
     }

@@ -1,6 +1,6 @@
--- What is returned was in the table of plans, or was added to it, under the lock. It is missing only if as many plans as may be wait or run.
+-- What is returned was in the table of plans, or was added to it, under the lock. It is missing only if it isn't the client's turn.
 use Rattle.hls_jobs.proofs.PlanCalls.{added_plan}
 use Rattle.hls_jobs.proofs.shared.Jobs.find_or_plan.Goals as goal
 
 pub returns : goal.returns
-returns g c = added_plan _ c.args.request c.find_or_add-found.result c.find_or_add-found.ensures.found c.find_or_add-found.ensures.full
+returns g c = added_plan _ c.args.request c.args.client c.find_or_add-found.result c.find_or_add-found.ensures.found c.find_or_add-found.ensures.full
