@@ -20,4 +20,4 @@ mod write;
 pub use measured::Measured;
 pub use measurements::Measurements;
 pub use request_kinds::{RouteKind, request_kind};
-pub use write::write_metrics;
+pub use write::push_metrics;
