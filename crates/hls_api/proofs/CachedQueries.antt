@@ -1,14 +1,15 @@
 -- Two states of one log with equally many events have the same programmes.
-use Rattle.std.proofs.Common.{◌≡◌, ◌∙◌, ℕ, ◌<◌, List, [], ◌∷◌, ◌++◌, length, ◌⊎◌, inl, inr, Bool, true, false, Option, Some, None, Result, Ok, Err, refl, sym, ap, subst, if◌then◌else◌}
+use Rattle.std.proofs.Common.{◌≡◌, ℕ, ◌<◌, List, [], ◌∷◌, ◌++◌, length, ◌⊎◌, inl, inr, Bool, true, false, Option, Some, None, Result, Ok, Err, refl, sym, ap, subst, if◌then◌else◌}
 use Rattle.std.{specs.Prelude.{All, slice_index_or, unwrap_or}, proofs.lemmas.List.Elements.{All-nil, All-push}}
 use Rattle.hls_core_laws.specs.{State.State, Config.ConfigData, Places.kept_places, declared.event.Entry.Entry}
-use Rattle.hls_places_laws.specs.Programmes.{IsProgramme}
+use Rattle.hls_places_laws.specs.Programmes.{IsFirstPlaceFrom, IsLastPlaceBy, IsProgramme, time_at}
 use Rattle.hls_check_tables.specs.Tables.{Table, goal_of, rule_of}
-use Rattle.hls_catchup.specs.Requests.{IsTableFor, all_finished}
+use Rattle.hls_catchup.specs.Canonical.{IsCanonical, IsCanonicalOrFault, with_times}
+use Rattle.hls_catchup.specs.Requests.{IsInRange, IsTableFor, all_finished}
 use Rattle.hls_api.specs.Types.{CatchupParams, CatchupQuery, QueryFault, Request}
 use Rattle.hls_api.specs.Queries.{catchup_params_of, request_for}
 use Rattle.hls_api.specs.PlaylistCache.{HasVersion, HasSameListsBefore}
-use Rattle.hls_api.specs.Programmes.{HasProgramme, StartsParams}
+use Rattle.hls_api.specs.Programmes.{StartsParams}
 use Rattle.hls_api.specs.ProgrammeCache.{AreQueriesOf, IsQueryOf, IsStartIn}
 use Rattle.hls_api.specs.declared.programme_cache.CachedQuery.{CachedQuery}
 use Rattle.hls_api.specs.declared.programme_responses.ProgrammeStart.TheVariants.{Planned}
@@ -24,13 +25,37 @@ abbrev IsProgrammeBy : ConfigData → List Entry → Request → Table → Type 
 IsProgrammeBy config log request t =
     IsProgramme (goal_of config.target request.preferred request.rule) (kept_places (state_by config log)) (all_finished (state_by config log)) request.start_us request.stop_us (Ok t)
 
+-- the first and the last place of a request's programme, and its canonical request, by a configuration and a log
+abbrev SpansBy : Request → Request → ℕ → ℕ → ConfigData → List Entry → Type 0
+SpansBy request canonical first last config log =
+    IsLastPlaceBy (kept_places (state_by config log)) request.start_us first × IsFirstPlaceFrom (kept_places (state_by config log)) request.stop_us last
+    × (canonical ≡ with_times request (time_at (kept_places (state_by config log)) first) (time_at (kept_places (state_by config log)) last))
+
+-- a request in range is in range in a state with the same configuration
+same_range : (a b : State) (request : Request) → b.config ≡ a.config → IsInRange a request → IsInRange b request
+same_range a b request config x = record { order = x.order; preferred = rw config x.preferred; charge = x.charge }
+
+-- a state with the same configuration and log has the same canonical request
+same_canonical : (a b : State) (request canonical : Request) → b.config ≡ a.config → b.log ≡ a.log → IsCanonical a request canonical → IsCanonical b request canonical
+same_canonical a b request canonical config log x =
+    let by_config = subst (λ (c : ConfigData). SpansBy request canonical x.first x.last c a.log) (sym config) (x.begins, x.ends, x.is) in
+    let by_log = subst (λ (l : List Entry). SpansBy request canonical x.first x.last b.config l) (sym log) by_config in
+    record {
+      in_range = same_range a b request config x.in_range;
+      first = x.first;
+      last = x.last;
+      begins = by_log.0;
+      ends = by_log.1;
+      is = by_log.2;
+    }
+
 -- a state with the same configuration and log has the same table for a request
 same_table : (a b : State) (request : Request) (t : Table) → b.config ≡ a.config → b.log ≡ a.log → IsTableFor a request (Ok t) → IsTableFor b request (Ok t)
 same_table a b request t config log x =
     let by_config = subst (λ (c : ConfigData). IsProgrammeBy c a.log request t) (sym config) x.programme in
     let by_log = subst (λ (l : List Entry). IsProgrammeBy b.config l request t) (sym log) by_config in
     record {
-      in_range = record { order = x.in_range.order; preferred = rw config x.in_range.preferred; charge = x.in_range.charge };
+      in_range = same_range a b request config x.in_range;
       programme = by_log;
     }
 
@@ -50,8 +75,9 @@ params_stay : (a b : State) (resolved : Result CatchupParams QueryFault) (reques
     → StartsParams b resolved (Planned request)
 params_stay a b (Ok params) request config log x =
     let same : request_for b params ≡ request_for a params = ap (request_by params) config in
-    let has = x.1 in
-    (x.0 ∙ sym same, subst (λ (r : Request). HasProgramme b r) (sym same) (has.0, same_table a b (request_for a params) has.0 config log has.1))
+    let has = x.0 in
+    subst (λ (r : Request). IsCanonicalOrFault b r (Ok request)) (sym same)
+    ((has.0, same_table a b (request_for a params) has.0 config log has.1), same_canonical a b (request_for a params) request config log x.1)
 params_stay a b (Err fault) request config log x = absurd (cc x)
 
 -- a query leads to the same programme in a state with as many events, if that state has the same lists

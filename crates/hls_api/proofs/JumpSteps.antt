@@ -1,25 +1,24 @@
 -- The newest end of the renditions, and the presences of their encoders, one rendition at a time.
-use Rattle.std.proofs.Common.{◌≡◌, ◌∙◌, ℕ, zero, suc, ◌+◌, ◌<◌, None, Bool, true, false, List, [], ◌∷◌, ◌++◌, length, get_or, map, take, refl, sym, subst, ap, arith}
+use Rattle.std.proofs.Common.{◌≡◌, ◌∙◌, ℕ, suc, ◌+◌, ◌<◌, None, false, List, [], ◌∷◌, ◌++◌, length, get_or, map, take, refl, sym, ap, arith}
 use Rattle.std.specs.Prelude.{set}
 use Rattle.std.specs.List.{range_with_len}
 use Rattle.std.proofs.lemmas.{List.{length-set, take_all, take_more_set}, List.Folds.list_all_at, List.Sums.list_all-from_AllPass}
 use Rattle.std.proofs.lemmas.List.FromFn.{get_or-map-range_with_len, length-map-range_with_len, map-range_with_len_more}
 use Rattle.hls_core_laws.specs.State.{State}
-use Rattle.hls_core.specs.Getters.{recording_of}
 use Rattle.hls_mend_laws.specs.declared.presence.Presence.{Presence}
 use Rattle.hls_api.specs.declared.encoder_readings.EncoderReadings.{EncoderReadings}
-use Rattle.hls_api.specs.Jumps.{AllJumpIsAccepted, OneClockIsRefused, end_us_in, later, newest_end, other_presences, presence_of}
+use Rattle.hls_api.specs.Jumps.{AllJumpIsAccepted, OneClockIsRefused, end_of_other, later, newest_of_others, other_presences, presence_of}
 use Rattle.hls_mend_laws.specs.Jumps.{allows_jump, is_accepted_jump}
 
 -- zero renditions have no newest end
-pub newest_zero : (s : State) → newest_end s 0 ≡ None
-unfolding newest_end
-newest_zero s = refl
+pub newest_zero : (s : State) (r : ℕ) → newest_of_others s r 0 ≡ None
+unfolding newest_of_others
+newest_zero s r = refl
 
--- the newest end of the first n + 1 renditions is the later of that of the first n and the end of rendition n
-pub newest_next : (s : State) (n : ℕ) → newest_end s (n + 1) ≡ later (newest_end s n) (end_us_in (recording_of s n))
-unfolding newest_end
-newest_next s n = let a : n + 1 ≡ suc n = omega arith in rw a refl
+-- the newest end of the first n + 1 renditions other than r is the later of that of the first n and the end of rendition n
+pub newest_next : (s : State) (r n : ℕ) → newest_of_others s r (n + 1) ≡ later (newest_of_others s r n) (end_of_other s r n)
+unfolding newest_of_others
+newest_next s r n = let a : n + 1 ≡ suc n = omega arith in rw a refl
 
 -- if the first n of 16 presences are right, and the next one is set to that of rendition n, the first n + 1 are right
 pub presences_next : (s : State) (r : ℕ) (e : EncoderReadings) (ps : List Presence) (p : Presence) (n : ℕ) → p ≡ presence_of s r e n → n < 16

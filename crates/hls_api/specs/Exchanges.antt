@@ -6,7 +6,7 @@ use Rattle.hls_core_laws.specs.{declared.event.Event.TheVariants.Finish, declare
 use Rattle.hls_core.specs.FaultName.{name_of}
 use Rattle.hls_http.specs.{declared.framing.BodyFraming.TheVariants.{Length, Size}, Heads.{ReadsLimitedHead, IsTooLarge}, Methods.method_of}
 use Rattle.hls_http.specs.{declared.request_action.RequestAction.TheVariants.{Refuse, Ingest, Discard}, Bodies.{StepsThrough, ReadsLine}}
-use Rattle.hls_http.specs.{Limits.discard_limit, Fields.values, Range.range_of_values, Requests.{framing_of_head, fields_of}}
+use Rattle.hls_http.specs.{Limits.discard_limit, Fields.{client_of_values, values}, Range.range_of_values, Requests.{framing_of_head, fields_of}}
 use Rattle.hls_http.specs.Actions.{announced_len, action_by, sends_continue, sends_close}
 use Rattle.hls_http.specs.ResponseText.{continue_text, is_success, out_of_memory_response}
 use Rattle.hls_catchup.specs.{declared.fault.JobFault.TheVariants.UnknownJob, Jobs.JobLine.served_version, Jobs.Shared.{HasCounted, HasRemoved}}
@@ -37,14 +37,16 @@ pub record RequestParams : Type 0 where
   pub method : Method
   pub query : List ℕ
   pub range : RangeSpec
+  pub client : ℕ
 
--- what a head asks for in a channel: the route of its path, its method, its query, and the range of its Range fields
+-- what a head asks for in a channel: the route of its path, its method, its query, the range of its Range fields, and for which client
 abbrev pub params_of : ServedChannel → RequestHead → RequestParams
 params_of channel h = record {
   route = route_of channel (path_of h.target);
   method = method_of h.method;
   query = query_of h.target;
   range = range_of_values (values (codes "range") (fields_of h));
+  client = client_of_values (values (codes "x-client") (fields_of h));
 }
 
 -- a request whose head was read: what it asks for, and what is done with it
@@ -72,10 +74,10 @@ FinishesRendition a r b answer = (done : Result Done Refusal) × RecordsSubmit a
 abbrev pub RespondsWithSome : List Act → List Act → (State → ResponseData → Type 0) → ResponseData → Type 0
 RespondsWithSome a b Shows answer = (s : State) × RecordsLook a s b × Shows s answer
 
--- the acts and the reply for a file of a programme: an invalid query is refused without a look, any other is answered from one look
-abbrev pub HandlesProgramme : Option CatchupQuery → ProgrammeFile → List Act → List Act → ResponseData → Type 0
-HandlesProgramme None file a b answer = (b ≡ a) × (answer ≡ invalid_answer)
-HandlesProgramme (Some query) file a b answer = RespondsWithSome a b (λ s shown. ShowsProgramme s query file shown) answer
+-- the acts and the reply for a file of a programme for a client: an invalid query is refused without a look, any other is answered from one look
+abbrev pub HandlesProgramme : ℕ → Option CatchupQuery → ProgrammeFile → List Act → List Act → ResponseData → Type 0
+HandlesProgramme client None file a b answer = (b ≡ a) × (answer ≡ invalid_answer)
+HandlesProgramme client (Some query) file a b answer = RespondsWithSome a b (λ s shown. ShowsProgramme client s query file shown) answer
 
 -- ---- acts on the table of jobs: one addition where a recording is asked for, one removal where a job is deleted, and no other
 
@@ -174,7 +176,7 @@ IsServedBy q (routes.InitSection run r) a answer b = RespondsWithState a b (λ s
 IsServedBy q (routes.Segment run r first last) a answer b =
     RespondsWithState a b (λ s. segment_answer s run r first last (range_for (is_to_head q.method) q.range)) answer
 IsServedBy q (routes.Since start file) a answer b = RespondsWithState a b (λ s. since_answer s start file) answer
-IsServedBy q (routes.Programme start stop file) a answer b = HandlesProgramme (programme_query_in start stop q.query) file a b answer
+IsServedBy q (routes.Programme start stop file) a answer b = HandlesProgramme q.client (programme_query_in start stop q.query) file a b answer
 IsServedBy q routes.CatchUp a answer b = HandlesCatchup (query_in q.query) a b answer
 IsServedBy q routes.Status a answer b = (jobs : ℕ) × HasCounted jobs × RespondsWithState a b (λ s. status_answer s jobs) answer
 IsServedBy q routes.Metrics a answer b =

@@ -15,7 +15,7 @@ use Rattle.hls_api.specs.Types.{StreamFault, Refusal, State, Done, BodyFraming, 
 use Rattle.hls_record.specs.RecordingData.{RecordingData}
 use Rattle.hls_mend.specs.InitSections.{is_same_to_decoders}
 use Rattle.hls_mend_laws.specs.declared.settings.MendSettings.{MendSettings}
-use Rattle.hls_mend.specs.{MendedUnits.{Mended, as_sent, mended_unit}, declared.mended.ReadUnit.ReadUnit}
+use Rattle.hls_mend.specs.{MendedUnits.{Mended, as_sent, declared_rate, mended_unit}, declared.mended.ReadUnit.ReadUnit}
 use Rattle.hls_boxes.specs.declared.part.Part.TheVariants as parts
 use Rattle.hls_core.specs.declared.feed_fault.FeedFault.TheVariants as feed_faults
 use Rattle.hls_core_laws.specs.declared.done.Done.TheVariants as done
@@ -55,13 +55,11 @@ counts_text true c = counts_before (mended_counts_text c) c
 
 -- ---- parts
 
--- the progress of a body: its acts, the rendition's init section once it was looked up, the counts, and, if units are mended, the end in
--- ticks of the last unit that was recorded of it
+-- the progress of a body: its acts, the rendition's init section once it was looked up, and the counts
 pub record Progress : Type 0 where
   pub acts : List Act
   pub init : Option InitData
   pub counts : IngestCounts
-  pub end : Option ℕ
 
 -- the counts of a body before its first part
 abbrev pub no_counts : IngestCounts
@@ -69,7 +67,7 @@ no_counts = record { inits = 0; units = 0; repeats = 0; mended = 0; filled = 0; 
 
 -- the progress of a body before its first part
 abbrev pub no_progress : Progress
-no_progress = record { acts = []; init = None; counts = no_counts; end = None }
+no_progress = record { acts = []; init = None; counts = no_counts }
 
 -- at a body's first unit the state is looked at, once, for the rendition's init section, by which its units are read
 pub record LooksUpInit (r : ℕ) (x : Progress) (found : Option InitData) (z : List Act) : Type 0 where
@@ -172,30 +170,32 @@ FailsToMend before after = (looked : List Act) × AtMostOne IsLook before looked
 abbrev pub MendsInit : ℕ → Progress → List ℕ → Progress → Result (Unit {0}) FeedFault → Type 0
 MendsInit r x bytes y (Err feed_faults.Memory) = FailsToMend x.acts y.acts
 MendsInit r x bytes y result =
-    (chosen : List ℕ) × (looked : List Act) × ChoosesInit r x bytes chosen looked × HandlesPart r (record x { acts = looked }) (parts.Init chosen) y result × (y.end ≡ x.end)
+    (chosen : List ℕ) × (looked : List Act) × ChoosesInit r x bytes chosen looked × HandlesPart r (record x { acts = looked }) (parts.Init chosen) y result
 
--- what mending makes of a unit in a state
-abbrev pub mended_for : MendSettings → InitData → ReadUnit → Option RecordingData → Mended
-mended_for settings init u None = as_sent u
-mended_for settings init u (Some rec) = mended_unit settings init rec u
+-- what mending makes of a unit in a state, for a rendition with this declared bit rate
+abbrev pub mended_for : MendSettings → ℕ → InitData → ReadUnit → Option RecordingData → Mended
+mended_for settings bandwidth init u None = as_sent u
+mended_for settings bandwidth init u (Some rec) = mended_unit settings bandwidth init rec u
+
+-- what mending makes of a unit of rendition r in a state
+abbrev pub mended_in : MendSettings → ℕ → State → InitData → ReadUnit → Mended
+mended_in settings r s init u = mended_for (settings_for settings s r u.facts.start_us) (declared_rate s.config.renditions r) init u (recording_of s r)
 
 -- whether a unit may be submitted, by a state: what is known of the encoders is read for one that is ahead of the channel, and for no other
 abbrev pub MaySubmit : MendSettings → ℕ → State → Facts → List Act → List Act → Bool → Type 0
 MaySubmit settings r s f before after may =
-    ((is_ahead_in settings.fill_us s f.start_us ≡ false) × (may ≡ true) × (after ≡ before))
-    ⊎ ((is_ahead_in settings.fill_us s f.start_us ≡ true) × ((readings : EncoderReadings) × RecordsReading before readings after × (may ≡ is_accepted_by s r readings)))
+    ((is_ahead_in settings.fill_us s r f.start_us ≡ false) × (may ≡ true) × (after ≡ before))
+    ⊎ ((is_ahead_in settings.fill_us s r f.start_us ≡ true) × ((readings : EncoderReadings) × RecordsReading before readings after × (may ≡ is_accepted_by s r readings)))
 
--- a unit that starts at the end of the body's last one is submitted as it was sent; for any other one the state is looked at
-abbrev pub DecidesUnit : MendSettings → ℕ → Option ℕ → InitData → ReadUnit → List Act → Mended → List Act → Type 0
-DecidesUnit settings r end init u before mended after =
-    ((end ≡ Some u.facts.start) × (mended ≡ as_sent u) × (after ≡ before))
-    ⊎ ((end ≢ Some u.facts.start)
-    × ((state : State) × (looked : List Act) × RecordsLook before state looked × MaySubmit settings r state u.facts looked after true × (mended ≡ mended_for (settings_for settings state r u.facts.start_us) init u (recording_of state r))))
+-- the state is looked at, and by it a unit may be submitted as mending makes it
+abbrev pub DecidesUnit : MendSettings → ℕ → InitData → ReadUnit → List Act → Mended → List Act → Type 0
+DecidesUnit settings r init u before mended after =
+    (state : State) × (looked : List Act) × RecordsLook before state looked × MaySubmit settings r state u.facts looked after true × (mended ≡ mended_in settings r state init u)
 
--- by a look, a unit that doesn't continue the body's last one may not be submitted
-abbrev pub RefusesAhead : MendSettings → ℕ → Option ℕ → Facts → List Act → List Act → Type 0
-RefusesAhead settings r end f before after =
-    (end ≢ Some f.start) × ((state : State) × (looked : List Act) × RecordsLook before state looked × MaySubmit settings r state f looked after false)
+-- the state is looked at, and by it a unit may not be submitted
+abbrev pub RefusesAhead : MendSettings → ℕ → Facts → List Act → List Act → Type 0
+RefusesAhead settings r f before after =
+    (state : State) × (looked : List Act) × RecordsLook before state looked × MaySubmit settings r state f looked after false
 
 -- a filler counts if it is new; one that the channel refuses is left out, except one that overlaps
 abbrev pub with_filler : Result Done Refusal → IngestCounts → IngestCounts
@@ -221,12 +221,6 @@ with_mended changed (Ok done.Repeat) c = record c { repeats = one_more c.repeats
 with_mended changed (Err Overlap) c = record c { dropped = one_more c.dropped }
 with_mended changed (Err refusal) c = c
 
--- the end in ticks of the body's last recorded unit, after a unit's outcome: its own if it is new, none if it overlapped, else as before
-abbrev pub end_after : Facts → Result Done Refusal → Option ℕ → Option ℕ
-end_after f (Ok (done.New version)) end = Some (f.start + f.duration)
-end_after f (Err Overlap) end = None
-end_after f answer end = end
-
 -- what a mended unit's outcome means for its body: an accepted or overlapping one doesn't stop it, and any other refusal does
 abbrev pub mended_result : Result Done Refusal → Result (Unit {0}) FeedFault
 mended_result (Ok done) = Ok tt
@@ -240,7 +234,7 @@ pub record DecidesPart (settings : MendSettings) (r : ℕ) (x : Progress) (bytes
   pub finds : FindsInit r x init looked
   pub facts : Facts
   pub reads : IsUnit init bytes facts
-  pub decides : DecidesUnit settings r x.end init (record { facts = facts; bytes = bytes }) looked mended seen
+  pub decides : DecidesUnit settings r init (record { facts = facts; bytes = bytes }) looked mended seen
 
 -- a unit is submitted as mending makes it, after fillers if they are needed
 pub record MendsUnit (settings : MendSettings) (r : ℕ) (x : Progress) (bytes : List ℕ) (y : Progress) (result : Result (Unit {0}) FeedFault) : Type 0 where
@@ -254,7 +248,6 @@ pub record MendsUnit (settings : MendSettings) (r : ℕ) (x : Progress) (bytes :
   pub answer : Result Done Refusal
   pub submits : RecordsSubmit before (Accept r mended.unit.facts mended.unit.bytes) answer y.acts
   pub counts : y.counts ≡ with_mended mended.is_changed answer filled
-  pub ends : y.end ≡ end_after mended.unit.facts answer x.end
   pub kept : y.init ≡ Some init
   pub result_is : result ≡ mended_result answer
 
@@ -274,7 +267,6 @@ pub record IsOvertaken (settings : MendSettings) (r : ℕ) (x : Progress) (bytes
   pub fills : SubmitsFillers r (take count mended.fillers) x.counts seen filled before
   pub overlaps : RecordsSubmit before (Accept r filler.facts filler.bytes) (Err Overlap) y.acts
   pub counts : y.counts ≡ with_mended false (Err Overlap) filled
-  pub ends : y.end ≡ None
   pub kept : y.init ≡ Some init
   pub result_is : result ≡ Ok tt
 
@@ -297,7 +289,7 @@ pub record IsAhead (settings : MendSettings) (r : ℕ) (x : Progress) (bytes : L
   pub finds : FindsInit r x init looked
   pub facts : Facts
   pub reads : IsUnit init bytes facts
-  pub refuses : RefusesAhead settings r x.end facts looked z
+  pub refuses : RefusesAhead settings r facts looked z
 
 -- a unit is refused before it is submitted: it is invalid, comes before any init section, or is ahead of the channel
 abbrev pub RefusesUnitBefore : MendSettings → ℕ → Progress → List ℕ → StreamFault → List Act → Type 0

@@ -1,6 +1,6 @@
 -- Which units are ahead of the channel, and whether a jump is accepted, by a state and what was read of the encoders.
-use Rattle.std.specs.Prelude.{◌≡◌, ◌<◌, ℕ, zero, suc, ◌-◌, nat_eq, max, Bool, true, false, not, ◌&&◌, is_some, Option, Some, None, List, length, map, slice_get, slice_index_or}
-use Rattle.std.specs.Option.{option_map}
+use Rattle.std.specs.Prelude.{◌≡◌, ◌<◌, ℕ, zero, suc, ◌-◌, nat_eq, max, Bool, true, false, not, ◌&&◌, if◌then◌else◌, is_some, Option, Some, None, List, length, map, slice_get, slice_index_or}
+use Rattle.std.specs.Option.{option_map, option_or}
 use Rattle.std.specs.List.{range_with_len}
 use Rattle.hls_record.specs.RecordingData.{RecordingData}
 use Rattle.hls_core_laws.specs.State.{State}
@@ -22,28 +22,36 @@ abbrev pub end_us_in : Option RecordingData → Option ℕ
 end_us_in None = None
 end_us_in (Some rec) = option_map (λ f. f.end_us) (slice_get rec.facts (length rec.facts - 1))
 
--- the newest end of the first n renditions
-unfoldable pub newest_end : State → ℕ → Option ℕ
-newest_end s zero = None
-newest_end s (suc n) = later (newest_end s n) (end_us_in (recording_of s n))
+-- the end of rendition n in microseconds, unless it is rendition r itself
+abbrev pub end_of_other : State → ℕ → ℕ → Option ℕ
+end_of_other s r n = if nat_eq n r then None else end_us_in (recording_of s n)
+
+-- the newest end of the first n renditions other than r
+unfoldable pub newest_of_others : State → ℕ → ℕ → Option ℕ
+newest_of_others s r zero = None
+newest_of_others s r (suc n) = later (newest_of_others s r n) (end_of_other s r n)
+
+-- the end by which a unit of rendition r is ahead: the newest one of the other renditions, or its own if no other has a unit
+abbrev pub channel_end : State → ℕ → Option ℕ
+channel_end s r = option_or (newest_of_others s r (length s.config.renditions)) (end_us_in (recording_of s r))
 
 -- whether a unit starts more than `fill_us` after this newest end; it doesn't if there is no end
 abbrev pub is_ahead_by : ℕ → Option ℕ → ℕ → Bool
 is_ahead_by fill_us None start_us = false
 is_ahead_by fill_us (Some newest_us) start_us = is_ahead_of fill_us newest_us start_us
 
--- a unit is ahead of the channel if it starts more than `fill_us` after the newest end of all renditions; none is before there is a unit
-abbrev pub is_ahead_in : ℕ → State → ℕ → Bool
-is_ahead_in fill_us s start_us = is_ahead_by fill_us (newest_end s (length s.config.renditions)) start_us
+-- a unit of rendition r is ahead of the channel if it starts more than `fill_us` after the channel's end; none is before there is a unit
+abbrev pub is_ahead_in : ℕ → State → ℕ → ℕ → Bool
+is_ahead_in fill_us s r start_us = is_ahead_by fill_us (channel_end s r) start_us
 
 -- by how many microseconds a unit starts after the newest end, if there is one
 abbrev pub ahead_by : Option ℕ → ℕ → ℕ
 ahead_by None start_us = 0
 ahead_by (Some newest_us) start_us = start_us - newest_us
 
--- by how many microseconds a unit starts after the newest end of all renditions in a state; 0 if it doesn't or there is no unit
-abbrev pub ahead_in : State → ℕ → ℕ
-ahead_in s start_us = ahead_by (newest_end s (length s.config.renditions)) start_us
+-- by how many microseconds a unit of rendition r starts after the channel's end in a state; 0 if it doesn't or there is no unit
+abbrev pub ahead_in : State → ℕ → ℕ → ℕ
+ahead_in s r start_us = ahead_by (channel_end s r) start_us
 
 -- ---- the other renditions
 

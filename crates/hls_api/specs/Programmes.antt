@@ -9,12 +9,11 @@ use Rattle.hls_http.specs.ResponseText.{extra_line, refusal_body}
 use Rattle.hls_places_laws.specs.declared.place.Place.{Place}
 use Rattle.hls_places_laws.specs.Order.{time_of}
 use Rattle.hls_core_laws.specs.Places.{places}
+use Rattle.hls_catchup.specs.Canonical.{IsCanonicalOrFault}
 use Rattle.hls_catchup.specs.declared.fault.CatchFault.{CatchFault}
 use Rattle.hls_catchup.specs.declared.fault.CatchFault.TheVariants.{BeforeRecording}
 use Rattle.hls_catchup.specs.FaultName.{catch_fault_name}
 use Rattle.hls_catchup.specs.Replies.{IsAnswered, ReplyData}
-use Rattle.hls_catchup.specs.Requests.{IsTableFor}
-use Rattle.hls_check_tables.specs.Tables.{Table}
 use Rattle.hls_catchup.specs.Jobs.Files.{certificate_file}
 use Rattle.hls_jobs.specs.Programmes.{master_file, programme_list_file}
 use Rattle.hls_jobs.specs.Plans.{HasAddedPlan, HasFoundPlan}
@@ -71,13 +70,9 @@ programme_refusal s request fault = text_answer NotFound (refusal_body (catch_fa
 
 -- ---- the reply
 
--- the state has the programme of the request
-abbrev pub HasProgramme : State → Request → Type 0
-HasProgramme s request = (t : Table) × IsTableFor s request (Ok t)
-
--- what a request leads to in a state: it is planned if the state has its programme, else it is refused
+-- what a request leads to in a state: if the state has its programme, the canonical request of that is planned, else it is refused
 abbrev pub StartsRequest : State → Request → ProgrammeStart → Type 0
-StartsRequest s request (Planned asked) = (asked ≡ request) × HasProgramme s request
+StartsRequest s request (Planned asked) = IsCanonicalOrFault s request (Ok asked)
 StartsRequest s request (Refused shown) =
     (fault : CatchFault) × IsAnswered s request (Some (Err fault)) × (shown ≡ with_policy Brief (programme_refusal s request fault))
 
@@ -86,7 +81,7 @@ abbrev pub StartsParams : State → Result CatchupParams QueryFault → Programm
 StartsParams s (Ok params) start = StartsRequest s (request_for s params) start
 StartsParams s (Err fault) start = start ≡ Refused (with_policy Brief (query_answer fault))
 
--- what a query for a programme leads to in a state: the request to plan, or a refusal, with times by the state's epoch
+-- what a query for a programme leads to in a state: the canonical request to plan, or a refusal, with times by the state's epoch
 abbrev pub StartsProgramme : State → CatchupQuery → ProgrammeStart → Type 0
 StartsProgramme s query begun = StartsParams s (catchup_params_of s.config.epoch query) begun
 
@@ -94,17 +89,17 @@ StartsProgramme s query begun = StartsParams s (catchup_params_of s.config.epoch
 abbrev pub invalid_answer : ResponseData
 invalid_answer = with_policy Brief (query_answer BadQuery)
 
--- the reply shows what a table of plans had for the request as it was added; or as it was found later, if it was unfinished then
-abbrev pub ShowsPlan : Request → ProgrammeFile → ResponseData → Type 0
-ShowsPlan request file shown =
-    ((found : FoundPlan) × HasAddedPlan request found × ShowsFound file found shown)
-    ⊎ (HasAddedPlan request Unfinished × ((found : FoundPlan) × HasFoundPlan request found × ShowsFound file found shown))
+-- the reply shows what a table of plans had for the request as it was added for the client; or as it was found later, if it was unfinished then
+abbrev pub ShowsPlan : ℕ → Request → ProgrammeFile → ResponseData → Type 0
+ShowsPlan client request file shown =
+    ((found : FoundPlan) × HasAddedPlan request client found × ShowsFound file found shown)
+    ⊎ (HasAddedPlan request client Unfinished × ((found : FoundPlan) × HasFoundPlan request found × ShowsFound file found shown))
 
 -- the reply for what a query led to: a file of the planned programme, or the refusal
-abbrev pub ShowsStart : ProgrammeFile → ProgrammeStart → ResponseData → Type 0
-ShowsStart file (Planned request) shown = ShowsPlan request file shown
-ShowsStart file (Refused refusal) shown = shown ≡ refusal
+abbrev pub ShowsStart : ℕ → ProgrammeFile → ProgrammeStart → ResponseData → Type 0
+ShowsStart client file (Planned request) shown = ShowsPlan client request file shown
+ShowsStart client file (Refused refusal) shown = shown ≡ refusal
 
--- the reply for a file of the programme that the query asks for, in a state
-abbrev pub ShowsProgramme : State → CatchupQuery → ProgrammeFile → ResponseData → Type 0
-ShowsProgramme s query file shown = (begun : ProgrammeStart) × StartsProgramme s query begun × ShowsStart file begun shown
+-- the reply for a file of the programme that a client's query asks for, in a state
+abbrev pub ShowsProgramme : ℕ → State → CatchupQuery → ProgrammeFile → ResponseData → Type 0
+ShowsProgramme client s query file shown = (begun : ProgrammeStart) × StartsProgramme s query begun × ShowsStart client file begun shown

@@ -2,7 +2,7 @@
 
 ghost use Rattle.std.specs.Prelude.{◌≡◌, ◌<◌, length};
 ghost use Rattle.hls_core.specs.Getters.{recording_of};
-ghost use Rattle.hls_api.specs.Jumps.{ahead_in, end_us_in, is_accepted_by, is_ahead_by, is_ahead_in, is_open_at, later as later_of, newest_end, other_presences, presence_of};
+ghost use Rattle.hls_api.specs.Jumps.{ahead_in, channel_end as end_of_channel, end_of_other, end_us_in, is_accepted_by, is_ahead_by, is_ahead_in, is_open_at, later as later_of, newest_of_others, other_presences, presence_of};
 
 use hls_core::snapshot::Snapshot;
 use hls_mend::{is_accepted_jump, is_ahead_of_channel};
@@ -57,16 +57,36 @@ pub(crate) fn end_us(snapshot: &Snapshot, rendition: usize) -> Option<u64>
     Some(facts.end_us)
 }
 
-/// The newest end of all renditions in microseconds.
+/// The end of another rendition's last unit in microseconds. None for the rendition itself.
+fn other_end(snapshot: &Snapshot, rendition: usize, other: usize) -> Option<u64>
+    ensures { result ≡ end_of_other snapshot.now rendition other }
+{
+    if other == rendition {
+        return None;
+    }
+    end_us(snapshot, other)
+}
+
+/// The newest end of the other renditions in microseconds.
 #[tactic(auto, using(crate::proofs::JumpSteps::newest_next, crate::proofs::JumpSteps::newest_zero))]
-fn find_newest_end(snapshot: &Snapshot) -> Option<u64>
-    ensures { result ≡ newest_end snapshot.now (length snapshot.now.config.renditions) }
+fn find_newest_end(snapshot: &Snapshot, rendition: usize) -> Option<u64>
+    ensures { result ≡ newest_of_others snapshot.now rendition (length snapshot.now.config.renditions) }
 {
     let mut newest = None;
-    for rendition in 0..snapshot.config().renditions().len() {
-        newest = later(newest, end_us(snapshot, rendition));
+    for other in 0..snapshot.config().renditions().len() {
+        newest = later(newest, other_end(snapshot, rendition, other));
     }
     newest
+}
+
+/// The end by which a unit of the rendition is ahead: the newest one of the other renditions, or its own if no other has a unit.
+fn channel_end(snapshot: &Snapshot, rendition: usize) -> Option<u64>
+    ensures { result ≡ end_of_channel snapshot.now rendition }
+{
+    match find_newest_end(snapshot, rendition) {
+        Some(newest) => Some(newest),
+        None => end_us(snapshot, rendition),
+    }
 }
 
 /// Whether a unit that starts at `start_us` is ahead of an end: more than `fill_us` after it. None is if there is no end.
@@ -79,19 +99,19 @@ pub(crate) fn is_ahead_of_end(fill_us: u32, end_us: Option<u64>, start_us: u64) 
     }
 }
 
-/// Whether a unit that starts at `start_us` is ahead of the channel: more than `fill_us` after the newest end of all renditions. None is
-/// before the channel's first unit.
-pub fn is_ahead(fill_us: u32, snapshot: &Snapshot, start_us: u64) -> bool
-    ensures { result ≡ is_ahead_in fill_us snapshot.now start_us }
+/// Whether a unit of the rendition that starts at `start_us` is ahead of the channel: more than `fill_us` after the newest end of the other
+/// renditions, or after its own if no other has a unit. None is before the channel's first unit.
+pub fn is_ahead(fill_us: u32, snapshot: &Snapshot, rendition: usize, start_us: u64) -> bool
+    ensures { result ≡ is_ahead_in fill_us snapshot.now rendition start_us }
 {
-    is_ahead_of_end(fill_us, find_newest_end(snapshot), start_us)
+    is_ahead_of_end(fill_us, channel_end(snapshot, rendition), start_us)
 }
 
-/// How far after the newest end of all renditions a unit starts, in microseconds; 0 if it doesn't.
-pub fn ahead_us(snapshot: &Snapshot, start_us: u64) -> u64
-    ensures { result ≡ ahead_in snapshot.now start_us }
+/// How far after that end a unit of the rendition starts, in microseconds; 0 if it doesn't.
+pub fn ahead_us(snapshot: &Snapshot, rendition: usize, start_us: u64) -> u64
+    ensures { result ≡ ahead_in snapshot.now rendition start_us }
 {
-    match find_newest_end(snapshot) {
+    match channel_end(snapshot, rendition) {
         Some(newest) => start_us.saturating_sub(newest),
         None => 0,
     }

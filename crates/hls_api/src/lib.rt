@@ -17,6 +17,7 @@ pub mod ingest;
 mod job_responses;
 pub mod laws;
 mod media_responses;
+mod metrics;
 pub mod parse_route;
 mod player_responses;
 mod playlist_cache;
@@ -37,6 +38,7 @@ pub use job_responses::{
     added_response, file_response, job_response, query_response, removed_response,
 };
 pub use media_responses::media_response;
+pub use metrics::{MetricsMemory, metrics_response};
 pub use player_responses::{SegmentSpan, init_response, segment_response};
 pub use playlist_cache::PlaylistCache;
 pub use playlist_responses::{
@@ -51,7 +53,7 @@ pub use query::{make_request, read_programme_query, read_query, resolve_query};
 pub use response::{Response, into_send_buffer};
 pub use response_body::ResponseBody;
 pub use since_responses::since_response;
-pub use status::{metrics_response, status_response};
+pub use status::status_response;
 pub use text_responses::{
     fault_response, finish_response, ingest_refused_response, ingested_response,
     method_not_allowed_response,

@@ -1,6 +1,7 @@
 //! Responses with a programme by its address: its playlists and its certificate, of the texts that a planner made.
 
-ghost use Rattle.std.specs.Prelude.{◌≡◌, Err, IfOk, MatchOption, Some};
+ghost use Rattle.std.specs.Prelude.{◌≡◌, Err, IfOk, MatchResult, Ok, Some};
+ghost use Rattle.hls_catchup.specs.Canonical.{IsCanonicalOrFault};
 ghost use Rattle.hls_catchup.specs.Replies.{IsAnswered, ReplyData};
 ghost use Rattle.hls_api.specs.Programmes as spec;
 
@@ -12,7 +13,7 @@ use crate::query::{make_request, resolve_query};
 use crate::response::Response;
 use crate::route::ProgrammeFile;
 use crate::text_responses::{fault_response, refusal_response, shared_text_response};
-use hls_catchup::{CatchFault, Request, find_programme};
+use hls_catchup::{CatchFault, Request, canonical_request};
 use hls_core::snapshot::Snapshot;
 use hls_http::fault::HttpFault;
 use hls_http::refusal_body;
@@ -24,7 +25,7 @@ use std::alloc::{AllocError, Global};
 /// What a request for a programme comes to in a snapshot.
 #[derive(Drop)]
 pub enum ProgrammeStart {
-    /// The snapshot has the programme of this request.
+    /// The snapshot has the programme of this canonical request.
     Planned(Request),
     /// It doesn't: the response says why.
     Refused(Response),
@@ -113,19 +114,22 @@ fn programme_refusal_response(
     }
 }
 
-/// Returns why a snapshot refuses a request; `None` if it has the programme, whether that has a plan or not. Plans nothing, and copies no
-/// place.
-fn request_fault(snapshot: &Snapshot, request: Request) -> Result<Option<CatchFault>, AllocError>
-    ensures { IfOk result (λ found. MatchOption found (spec.HasProgramme snapshot.now request) (λ fault. IsAnswered snapshot.now request (Some (Err fault)))) }
+/// Returns the canonical request, if a snapshot has the programme, whether that has a plan or not, or why the snapshot refuses the request.
+/// Plans nothing, and copies no place.
+fn find_canonical(
+    snapshot: &Snapshot,
+    request: Request,
+) -> Result<Result<Request, CatchFault>, AllocError>
+    ensures { IfOk result (λ found. MatchResult found (λ canonical. IsCanonicalOrFault snapshot.now request (Ok canonical)) (λ fault. IsAnswered snapshot.now request (Some (Err fault)))) }
 {
-    match find_programme(snapshot, request) {
-        Ok(_) => Ok(None),
+    match canonical_request(snapshot, request) {
+        Ok(canonical) => Ok(Ok(canonical)),
         Err(CatchFault::Memory) => Err(AllocError),
-        Err(fault) => Ok(Some(fault)),
+        Err(fault) => Ok(Err(fault)),
     }
 }
 
-/// Returns the request, if a snapshot has its programme, or else the response that refuses it.
+/// Returns the canonical request, if a snapshot has the programme, or else the response that refuses it.
 fn start_request(
     alloc: Global,
     snapshot: &Snapshot,
@@ -133,16 +137,16 @@ fn start_request(
 ) -> Result<ProgrammeStart, AllocError>
     ensures { IfOk result (λ start. spec.StartsRequest snapshot.now request start) }
 {
-    match request_fault(snapshot, request)? {
-        None => Ok(ProgrammeStart::Planned(request)),
-        Some(fault) => {
+    match find_canonical(snapshot, request)? {
+        Ok(canonical) => Ok(ProgrammeStart::Planned(canonical)),
+        Err(fault) => {
             let made = programme_refusal_response(alloc, snapshot, request, fault)?;
             Ok(ProgrammeStart::Refused(made.with_policy(CachePolicy::Brief)))
         }
     }
 }
 
-/// Returns the request by what a client asks for, if the channel has its times and a snapshot its programme, or else the response that
+/// Returns the canonical request by what a client asks for, if the channel has its times and a snapshot its programme, or else the response that
 /// refuses it.
 fn start_resolved(
     alloc: Global,
@@ -163,7 +167,7 @@ fn start_resolved(
     }
 }
 
-/// Returns the request of a query, if a snapshot has its programme. Otherwise the response is 410 if the programme's beginning is trimmed,
+/// Returns the canonical request of a query, if a snapshot has its programme. Otherwise the response is 410 if the programme's beginning is trimmed,
 /// 404 with the refusal's name if there is no such programme, and 400 for an instant that the channel doesn't have. Plans nothing.
 pub fn start_programme(
     alloc: Global,

@@ -1,4 +1,4 @@
-//! The status of a channel, as a few numbers, and its metrics.
+//! The status of a channel, as a few numbers.
 
 ghost use Rattle.std.specs.Prelude.{◌≡◌, ◌+◌, ◌++◌, IfOk, length};
 ghost use Rattle.hls_places_laws.specs.Line.Live.{segments_of};
@@ -13,7 +13,6 @@ use hls_core::snapshot::Snapshot;
 use hls_http::response_parts::Status;
 use hls_jobs::served_version;
 use hls_live::LiveLine;
-use hls_metrics::{Measured, write_metrics};
 use hls_text::push_number;
 use std::alloc::{AllocError, Global};
 
@@ -62,17 +61,4 @@ pub fn status_response(
     push_status_row(&mut out, b"removed", served_removed(snapshot))?;
     push_status_row(&mut out, b"jobs", jobs as u64)?;
     Ok(text_response(Status::Done, out))
-}
-
-/// The metrics of a channel with `jobs` jobs, and what its server measured, in Prometheus' text format.
-pub fn metrics_response(
-    alloc: Global,
-    snapshot: &Snapshot,
-    jobs: usize,
-    measured: &Measured,
-) -> Result<Response, AllocError>
-    ensures { IfOk result (λ a. a ≡ spec.metrics_answer snapshot.now jobs measured.now) }
-{
-    let text = write_metrics(alloc, snapshot, jobs, measured)?;
-    Ok(text_response(Status::Done, text))
 }
