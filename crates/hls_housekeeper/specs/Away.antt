@@ -10,7 +10,7 @@ use Rattle.hls_record.specs.RecordingData.{RecordingData}
 use Rattle.hls_core_laws.specs.State.{State}
 use Rattle.hls_core_laws.specs.declared.event.Event.{Event, TheVariants.Accept}
 use Rattle.hls_core.specs.Getters.{recording_of, finished_at}
-use Rattle.hls_mend.specs.MendedUnits.{is_audio, span_filler}
+use Rattle.hls_mend.specs.MendedUnits.{declared_rate, is_audio, span_filler}
 use Rattle.hls_mend.specs.declared.mended.ReadUnit.{ReadUnit}
 use Rattle.hls_housekeeper.specs.declared.fill.FillSpan.{FillSpan}
 
@@ -154,20 +154,20 @@ fill_span fill_us limit_us lead rec =
 
 -- ---- fillers
 
--- the filler of a recording for this span, if there is one
-abbrev pub filler_in : RecordingData → Option FillSpan → Option ReadUnit
-filler_in rec None = None
-filler_in rec (Some span) = span_filler rec span.start span.ticks
+-- the filler of a recording with this declared bit rate for this span, if there is one
+abbrev pub filler_in : ℕ → RecordingData → Option FillSpan → Option ReadUnit
+filler_in bandwidth rec None = None
+filler_in bandwidth rec (Some span) = span_filler bandwidth rec span.start span.ticks
 
 -- the filler that a recording needs next, if it is away, others are present, and one of them leads
-abbrev pub next_filler : ℕ → Option ℕ → Option RecordingData → Option RecordingData → Option ReadUnit
-next_filler fill_us (Some limit_us) (Some lead) (Some rec) = filler_in rec (fill_span fill_us limit_us lead rec)
-next_filler fill_us limit_us lead rec = None
+abbrev pub next_filler : ℕ → ℕ → Option ℕ → Option RecordingData → Option RecordingData → Option ReadUnit
+next_filler bandwidth fill_us (Some limit_us) (Some lead) (Some rec) = filler_in bandwidth rec (fill_span fill_us limit_us lead rec)
+next_filler bandwidth fill_us limit_us lead rec = None
 
 -- the filler that a rendition needs next, if it is away and others are there
 unfoldable pub filler_of : ℕ → State → List Bool → ℕ → Option ReadUnit
 filler_of fill_us s silent r =
-    next_filler fill_us (least_end s silent (length s.config.renditions)) (leader_at s silent (length s.config.renditions)) (away_at s silent r)
+    next_filler (declared_rate s.config.renditions r) fill_us (least_end s silent (length s.config.renditions)) (leader_at s silent (length s.config.renditions)) (away_at s silent r)
 
 -- the event of accepting a unit of a rendition
 abbrev pub accept_of : ℕ → ReadUnit → Event

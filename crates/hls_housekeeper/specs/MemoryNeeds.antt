@@ -1,11 +1,12 @@
 -- What a server needs by its settings, in bytes.
-use Rattle.std.specs.Prelude.{ℕ, ◌+◌, ◌*◌, ◌/◌, ◌^◌, min, max, List, [], ◌∷◌, ◌++◌, codes}
+use Rattle.std.specs.Prelude.{ℕ, Bool, cond, nat_le, ◌+◌, ◌*◌, ◌/◌, ◌^◌, min, max, Option, Some, None, List, [], ◌∷◌, ◌++◌, length, codes}
+use Rattle.hls_core_laws.specs.declared.rendition.Rendition.{Rendition}
 use Rattle.std.specs.Fmt.{decimal}
 use Rattle.hls_core_laws.specs.State.{log_limit}
 use Rattle.hls_settings.specs.declared.window_settings.WindowSettings.{WindowSettings}
 use Rattle.hls_settings.specs.declared.thread_settings.ThreadSettings.{ThreadSettings}
 use Rattle.hls_housekeeper.specs.Backoff.{backoff_ms}
-use Rattle.hls_housekeeper.specs.Memory.{retained_us}
+use Rattle.hls_housekeeper.specs.Memory.{bits_of, retained_us}
 use Rattle.hls_housekeeper.specs.declared.memory_needs.MemoryNeeds.{MemoryNeeds}
 use Rattle.hls_housekeeper.specs.declared.memory_needs.MemoryParts.{MemoryParts}
 
@@ -26,13 +27,26 @@ abbrev pub log_entries : ℕ → WindowSettings → ℕ
 log_entries renditions t =
     min (renditions * 518400 + (renditions * (1036800000 / max 2000 (backoff_ms t.keep)) + 1036800000000 / max 1 t.preferred)) log_limit
 
--- the parts in bytes, without the sockets, which aren't in the address space
-abbrev pub parts_of : ℕ → ℕ → WindowSettings → ThreadSettings → MemoryParts
-parts_of bits renditions t w = record {
+-- entries that are kept: in each rendition a unit every two seconds, the begin and the end
+abbrev pub kept_entries : ℕ → WindowSettings → ℕ
+kept_entries renditions t = renditions * (retained_us t / 2000000 + 2)
+
+-- entries with a journal: of a log that has 262144 or is kept by half, and of the new log that replaces it
+abbrev pub renewed_entries : ℕ → WindowSettings → ℕ
+renewed_entries renditions t = min (kept_entries renditions t + max (2 * kept_entries renditions t) 262144) log_limit
+
+-- entries of the log, with or without a journal
+abbrev pub entries_of : Bool → ℕ → WindowSettings → ℕ
+entries_of has_journal renditions t = cond has_journal (renewed_entries renditions t) (log_entries renditions t)
+
+-- the parts in bytes, without the sockets, which aren't in the address space; each rendition may have a large incomplete unit of 64 MiB, and
+-- 16 MiB of small ones
+abbrev pub parts_of : Bool → ℕ → ℕ → WindowSettings → ThreadSettings → MemoryParts
+parts_of has_journal bits renditions t w = record {
   media = bytes_over bits (retained_us t);
   jobs = bytes_over bits (held_us t);
-  arriving = bytes_over bits (t.target * 2000000);
-  log = 400 * log_entries renditions t;
+  arriving = 83886080 * renditions;
+  log = 400 * entries_of has_journal renditions t;
   threads = min (8388608 * (w.workers + w.planners + 2)) most;
   connections = min (1024 * w.connections) most;
 }
@@ -53,9 +67,14 @@ sockets_for w = min (327680 * w.connections) most
 abbrev pub needs_with : MemoryParts → ℕ → MemoryNeeds
 needs_with p sockets = record { parts = p; sockets = sockets; address_space = space_for (sum_of p); memory = space_for (sum_of p) + sockets }
 
--- what a server needs for the bits per second of all renditions, their number, and its settings
-abbrev pub needs_of : ℕ → ℕ → WindowSettings → ThreadSettings → MemoryNeeds
-needs_of bits renditions t w = needs_with (parts_of bits renditions t w) (sockets_for w)
+-- what a server needs with or without a journal, for the bits per second of all renditions, their number, and its settings
+abbrev pub needs_of : Bool → ℕ → ℕ → WindowSettings → ThreadSettings → MemoryNeeds
+needs_of has_journal bits renditions t w = needs_with (parts_of has_journal bits renditions t w) (sockets_for w)
+
+-- what the settings of a server need, if they have a target duration that they can have
+abbrev pub needs_for : Bool → List Rendition → WindowSettings → ThreadSettings → Option MemoryNeeds
+needs_for has_journal rs t w =
+    cond (nat_le t.target 3600) (Some (needs_of has_journal (bits_of rs) (min (length rs) 16) t w)) None
 
 -- whole mebibytes, rounded down, and one more
 abbrev pub mebibytes : ℕ → ℕ

@@ -11,8 +11,8 @@ use crate::away::{away_recording, end_us, find_leader, is_audio, least_end, pres
 use hls_core::snapshot::Snapshot;
 use hls_core_laws::event::Event;
 use hls_media_laws::facts::Facts;
-use hls_mend::make_span_filler;
 use hls_mend::mended::ReadUnit;
+use hls_mend::{declared_rate, make_span_filler};
 use hls_record::Recording;
 use std::alloc::{AllocError, Global};
 
@@ -177,16 +177,17 @@ fn find_span(
 /// The filler that a rendition needs next, if there is one.
 fn make_next_filler(
     alloc: Global,
+    bandwidth: u64,
     fill_us: u32,
     limit_us: u64,
     lead: &Recording,
     recording: &Recording,
 ) -> Result<Option<ReadUnit>, AllocError>
-    ensures value { IfOk result (λ o. o ≡ filler_in recording.now (fill_span fill_us limit_us lead.now recording.now)) }
+    ensures value { IfOk result (λ o. o ≡ filler_in bandwidth recording.now (fill_span fill_us limit_us lead.now recording.now)) }
     ensures valid { IfOk result (λ o. IfSome o (λ u. IsUnit recording.now.init u.bytes u.facts)) }
 {
     match find_span(fill_us, limit_us, lead, recording) {
-        Some(span) => make_span_filler(alloc, recording, span.start, span.ticks),
+        Some(span) => make_span_filler(alloc, recording, bandwidth, span.start, span.ticks),
         None => Ok(None),
     }
 }
@@ -222,7 +223,8 @@ pub fn find_filler(
     ) else {
         return Ok(None);
     };
-    match make_next_filler(alloc, fill_us, limit_us, lead, recording)? {
+    let bandwidth = declared_rate(snapshot.config().renditions(), rendition);
+    match make_next_filler(alloc, bandwidth, fill_us, limit_us, lead, recording)? {
         Some(filler) => Ok(Some(Event::Accept {
             rendition,
             facts: filler.facts,

@@ -15,6 +15,7 @@ use crate::progress::channel_time;
 use crate::server_status::ServerStatus;
 use crate::trim_backoff::TrimBackoff;
 use crate::trim_hold::{TrimHold, WrittenUnits};
+use hls_core::floors::rendition_count;
 use hls_core::snapshot::Snapshot;
 use hls_core::upkeep::upkeep;
 use hls_core_laws::event::Event;
@@ -254,6 +255,16 @@ fn watch_encoders<E: Eprint, H: ServerStatus>(
     }
 }
 
+/// Notes how many bytes of each rendition a state keeps.
+fn note_kept<H: ServerStatus>(snapshot: &Snapshot, status: &H) {
+    for rendition in 0..rendition_count(snapshot) {
+        if let Some(recording) = snapshot.recording(rendition) {
+            let trimmed = recording.offset(recording.floor());
+            status.note_kept(rendition, recording.total().saturating_sub(trimmed));
+        }
+    }
+}
+
 /// Inspects the channel, if that is due.
 fn inspect_channel<R: Wait + Eprint, H: ServerStatus>(
     log: &OperatorLog<'_, R>,
@@ -265,6 +276,7 @@ fn inspect_channel<R: Wait + Eprint, H: ServerStatus>(
 ) {
     if monitor.is_due(now) {
         status.measure_process();
+        note_kept(snapshot, status);
         let inspected = ChannelStatus {
             measurements: status.measurements(),
             settings,

@@ -8,6 +8,7 @@ use std::sync::atomic::{AtomicU64, Ordering};
 pub struct LogThrottle {
     pub failed_accept: AtomicU64,
     pub slow_response: AtomicU64,
+    pub slowed_body: AtomicU64,
 }
 
 impl LogThrottle {
@@ -16,6 +17,7 @@ impl LogThrottle {
         LogThrottle {
             failed_accept: AtomicU64::new(0),
             slow_response: AtomicU64::new(0),
+            slowed_body: AtomicU64::new(0),
         }
     }
 }

@@ -1,7 +1,7 @@
 //! Warns before the first connection if the settings keep more media than fits in memory.
 
 ghost use Rattle.std.specs.Prelude.{◌≡◌, ◌≤◌, ◌^◌};
-ghost use Rattle.hls_housekeeper.specs.Memory.{media_bytes_needed, retained_us};
+ghost use Rattle.hls_housekeeper.specs.Memory.{bits_of, media_bytes_needed, retained_us};
 
 use crate::operator_log::OperatorLog;
 use crate::trim_backoff::backoff_ms;
@@ -19,14 +19,19 @@ const MEGABYTE: u64 = 1_000_000;
 /// The size of the buffer for one file of `/proc` or of a control group.
 pub(crate) const ROOM: usize = 4096;
 
-/// Returns how long media are kept, in microseconds: the kept time, the window, two target durations, and a backoff.
+/// The greatest sum of bit rates, in bits per second.
+const MOST_BITS: u64 = 1 << 48;
+
+/// Returns how long media are kept, in microseconds: the kept time, the window or five target durations if that is less, two target
+/// durations, and a backoff. The kept time holds the window; live playlists may reach further back, by their oldest segment.
 pub(crate) fn retained_us(timing: WindowSettings) -> u128
     requires { timing.target ≤ 3600 }
     ensures value { result ≡ retained_us timing }
     ensures bound { result ≤ 2 ^ 66 }
 {
+    let before = timing.window.min(timing.target * 5_000_000);
     let ahead = timing.target * 2_000_000 + backoff_ms(timing.keep) * 1000;
-    u128::from(timing.keep) + u128::from(timing.window) + u128::from(ahead)
+    u128::from(timing.keep) + u128::from(before) + u128::from(ahead)
 }
 
 /// Returns how many bytes of media a bit rate yields over the time that media are kept.
@@ -41,13 +46,14 @@ fn media_bytes_needed(bits: u64, timing: WindowSettings) -> u64
 
 /// Returns the sum of the renditions' declared bit rates, in bits per second, capped at 2^48.
 pub(crate) fn bits_of(renditions: &[Rendition]) -> u64
-    ensures { result ≤ 2 ^ 48 }
+    ensures value { result ≡ bits_of renditions.now }
+    ensures bound { result ≤ 2 ^ 48 }
 {
-    let mut bits: u64 = 0;
+    let mut bits = 0u64;
     for rendition in renditions {
-        bits = bits.saturating_add(rendition.bandwidth);
+        bits = bits.saturating_add(rendition.bandwidth).min(MOST_BITS);
     }
-    bits.min(1 << 48)
+    bits
 }
 
 /// Reads the text of a file, as far as it fits in the buffer.

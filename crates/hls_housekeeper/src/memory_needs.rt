@@ -16,6 +16,12 @@ const MOST: u64 = 1 << 56;
 /// The least time that jobs hold media, in microseconds: an hour.
 const HOUR_US: u64 = 3_600_000_000;
 
+/// The bytes of incomplete units that a rendition may have: a large one of 64 MiB, and 16 MiB of small ones.
+const INCOMPLETE: u64 = 83_886_080;
+
+/// The entries from which a journal begins a new log, if at most half of them are kept.
+const LONG_LOG: u64 = LOG_LIMIT / 16;
+
 /// The seconds of twelve days, in milliseconds.
 const DAYS_MS: u64 = 1_036_800_000;
 
@@ -26,9 +32,9 @@ pub struct MemoryParts {
     pub media: u64,
     /// The media that catch-up jobs hold beside them.
     pub jobs: u64,
-    /// Units on their way.
+    /// Incomplete units.
     pub arriving: u64,
-    /// The log of twelve days.
+    /// The log: of twelve days, or what a journal lets it have.
     pub log: u64,
     /// The stacks of the threads.
     pub threads: u64,
@@ -74,6 +80,19 @@ fn held_us(timing: WindowSettings) -> u128
     retained_us(timing).max(u128::from(HOUR_US))
 }
 
+/// Returns how many entries the logs of a channel with a journal have at most: one that is long or of which most is kept, and the new one
+/// that replaces it.
+fn renewed_entries(renditions: u64, timing: WindowSettings) -> u64
+    requires renditions { renditions ≤ 16 }
+    requires target { timing.target ≤ 3600 }
+    ensures value { result ≡ spec.renewed_entries renditions timing }
+    ensures bound { result ≤ 4194304 }
+{
+    let kept = u128::from(renditions) * (retained_us(timing) / 2_000_000 + 2);
+    let most = kept + (2 * kept).max(u128::from(LONG_LOG));
+    u64::try_from(most.min(u128::from(LOG_LIMIT))).unwrap_or(LOG_LIMIT)
+}
+
 /// Returns how many entries the log gets in twelve days.
 fn log_entries(renditions: u64, timing: WindowSettings) -> u64
     requires { renditions ≤ 16 }
@@ -85,25 +104,40 @@ fn log_entries(renditions: u64, timing: WindowSettings) -> u64
     (renditions * 518_400 + (renditions * trims + slides)).min(LOG_LIMIT)
 }
 
-/// Returns the parts: for a bit rate, a number of renditions, durations, and threads.
+/// Returns how many entries the log has at most.
+fn entries(renditions: u64, timing: WindowSettings, has_journal: bool) -> u64
+    requires renditions { renditions ≤ 16 }
+    requires target { timing.target ≤ 3600 }
+    ensures value { result ≡ spec.entries_of has_journal renditions timing }
+    ensures bound { result ≤ 4194304 }
+{
+    if has_journal {
+        renewed_entries(renditions, timing)
+    } else {
+        log_entries(renditions, timing)
+    }
+}
+
+/// Returns the parts: for a bit rate, a number of renditions, durations, threads, and whether there is a journal.
 fn memory_parts(
     bits: u64,
     renditions: u64,
     timing: WindowSettings,
     workers: ThreadSettings,
+    has_journal: bool,
 ) -> MemoryParts
     requires bits { bits ≤ 2 ^ 48 }
     requires renditions { renditions ≤ 16 }
     requires target { timing.target ≤ 3600 }
-    ensures value { result ≡ spec.parts_of bits renditions timing workers }
+    ensures value { result ≡ spec.parts_of has_journal bits renditions timing workers }
     ensures bound { spec.sum_of result ≤ 2 ^ 59 }
 {
     let threads = u128::from(workers.workers) + u128::from(workers.planners) + 2;
     MemoryParts {
         media: bytes_over(bits, retained_us(timing)),
         jobs: bytes_over(bits, held_us(timing)),
-        arriving: bytes_over(bits, u128::from(timing.target * 2_000_000)),
-        log: 400 * log_entries(renditions, timing),
+        arriving: INCOMPLETE * renditions,
+        log: 400 * entries(renditions, timing, has_journal),
         threads: capped(8_388_608 * threads),
         connections: capped(1024 * u128::from(workers.connections)),
     }
@@ -126,24 +160,28 @@ fn needs_with(parts: MemoryParts, sockets: u64) -> MemoryNeeds
     }
 }
 
-/// Returns what a server needs: for a bit rate, a number of renditions, durations, and threads.
+/// Returns what a server needs: for a bit rate, a number of renditions, durations, threads, and whether there is a journal.
 pub fn memory_needs(
     bits: u64,
     renditions: u64,
     timing: WindowSettings,
     workers: ThreadSettings,
+    has_journal: bool,
 ) -> MemoryNeeds
     requires bits { bits ≤ 2 ^ 48 }
     requires renditions { renditions ≤ 16 }
     requires target { timing.target ≤ 3600 }
-    ensures { result ≡ spec.needs_of bits renditions timing workers }
+    ensures { result ≡ spec.needs_of has_journal bits renditions timing workers }
 {
     let sockets = capped(327_680 * u128::from(workers.connections));
-    needs_with(memory_parts(bits, renditions, timing, workers), sockets)
+    let parts = memory_parts(bits, renditions, timing, workers, has_journal);
+    needs_with(parts, sockets)
 }
 
-/// Returns what the settings need; `None` if the target duration is none that they can have.
-pub fn settings_needs(settings: &Settings) -> Option<MemoryNeeds> {
+/// Returns what the settings need, with or without a journal; `None` if the target duration is none that they can have.
+pub fn settings_needs(settings: &Settings, has_journal: bool) -> Option<MemoryNeeds>
+    ensures { result ≡ spec.needs_for has_journal settings.now.config.renditions settings.now.server.timing settings.now.server.workers }
+{
     let server = settings.server;
     if server.timing.target > 3600 {
         return None;
@@ -154,6 +192,7 @@ pub fn settings_needs(settings: &Settings) -> Option<MemoryNeeds> {
         (renditions.len() as u64).min(16),
         server.timing,
         server.workers,
+        has_journal,
     ))
 }
 

@@ -18,6 +18,9 @@ pub trait ServerStatus {
     /// Stores what the system reports of the process. May read files.
     fn measure_process(&self);
 
+    /// Notes how many bytes of a rendition the channel keeps.
+    fn note_kept(&self, rendition: usize, bytes: u64);
+
     /// Returns how many connections are open.
     fn connection_count(&self) -> u64;
 
