@@ -1,5 +1,5 @@
 -- The definitions of a journal's files: calls on a file, what is known of a log, batches of entries, media to write, what a follower writes,
--- what a start knows, and logs in older formats.
+-- what a start knows, logs in older formats, the numbers of segments, and when a new log is begun.
 pub mod Calls
 pub mod LogFiles
 pub mod Batches
@@ -7,3 +7,5 @@ pub mod Writes
 pub mod Followed
 pub mod StartRecords
 pub mod OlderFormats
+pub mod Numbers
+pub mod RenewalPolicy

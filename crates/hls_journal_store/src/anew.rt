@@ -51,8 +51,8 @@ struct OldChannel {
 
 /// Replaces the channel in a folder by an empty one with this configuration, which may have another ladder. Its lists count on from a
 /// number above all that the old channel can have listed, after a discontinuity, and its paths have the run `new_run`, a name that no
-/// other channel has. Where players may have seen more than the folder has, the number is at least `least`, which no list can have reached.
-/// Returns the base of the new channel; `None` if the folder has no log, and nothing is changed then.
+/// other channel has. The number is at least the given base's, and where players may have seen more than the folder has, at least `least`,
+/// which no list can have reached. Returns the base of the new channel; `None` if the folder has no log, and nothing is changed then.
 ///
 /// A marked folder, and one with a damaged log, is taken too. A crash leaves the old channel or the new one.
 ///
@@ -74,7 +74,12 @@ pub fn begin_anew<R: Files<File = File>>(
     let _lock = paths.lock_file(rt)?;
     let old = read_old(rt, alloc, &paths)?;
     let index = find_kept_units(alloc, &old.bodies)?;
-    let least = if old.may_lack { least } else { 0 };
+    let served = config.base().segments();
+    let least = if old.may_lack {
+        least.max(served)
+    } else {
+        served
+    };
     let renditions = config.renditions().len();
     let Some(base) = make_base(&old.bodies, &index, new_run, least, renditions) else {
         return Err(OpenFault::Channel(JournalFault::NoChannel));

@@ -70,6 +70,8 @@ pub enum OpenFault {
     Damaged { at: usize },
     /// The records don't restore a channel with the given configuration.
     Channel(JournalFault),
+    /// The channel's next segment would have the number `next`, and players have seen numbers up to `served`, which isn't one of them.
+    Stale { next: u64, served: u64 },
     /// A call on a file failed.
     Disk { part: StorePart, error: io::Error },
 }
@@ -160,15 +162,22 @@ impl From<StoreFault> for OpenFault {
     }
 }
 
-impl fmt::Display for StorePart {
-    fn fmt<W: fmt::Write>(&self, f: &mut fmt::Formatter<W>) -> fmt::Result {
-        f.write_str(match self {
+impl StorePart {
+    /// Returns the part as it is printed.
+    pub fn text(self) -> &'static str {
+        match self {
             StorePart::Folder => "folder",
             StorePart::Lock => "lock",
             StorePart::Log => "log",
             StorePart::Media => "media",
             StorePart::Marker => "behind",
-        })
+        }
+    }
+}
+
+impl fmt::Display for StorePart {
+    fn fmt<W: fmt::Write>(&self, f: &mut fmt::Formatter<W>) -> fmt::Result {
+        f.write_str(self.text())
     }
 }
 

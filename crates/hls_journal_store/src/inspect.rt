@@ -9,7 +9,7 @@ use crate::media_span::find_span;
 use crate::media_starts::MediaStarts;
 use crate::media_track::{media_path, open_and_sync};
 use crate::older_format::{check_format, check_text};
-use crate::records::append_closed;
+use crate::records::{append_closed, append_point, sync_log};
 use crate::start_record::{StartRecord, find_start};
 use crate::store_paths::{StorePaths, is_there};
 use crate::sync_mode::SyncMode;
@@ -156,6 +156,9 @@ pub fn close_store<R: Files<File = File>>(
         Ok(log) => log,
         Err(error) => return Err(open_fault(StorePart::Log, error)),
     };
+    // without a sync point, damage to the last records would look like a torn tail
+    sync_log(&mut log)?;
+    append_point(&mut log, alloc, &mut 0)?;
     append_closed(&mut log, alloc)?;
     Ok(())
 }

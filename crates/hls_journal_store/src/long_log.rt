@@ -1,57 +1,75 @@
 //! When the log of a channel is long, and what a new log keeps of the channel.
 
+use crate::renewal_policy::LogUse;
 use hls_core::floors::rendition_count;
 use hls_core::snapshot::{LOG_LIMIT, Snapshot};
 use hls_core::step::apply;
 use hls_core::upkeep::upkeep;
 use hls_core_laws::event::Event;
 use hls_core_laws::refusal::Refusal;
+use hls_record::Recording;
 use hls_record::recording::RECORDING_LIMIT;
 use hls_renewal::{RenewFault, renew};
 use std::alloc::{AllocError, Global};
 use std::sync::Arc;
 
-/// The entries from which a log is long: a restart takes a second or two then. It is a sixteenth of the most that a log can have.
-const LONG_LOG: u64 = LOG_LIMIT / 16;
-
-/// The bytes from which a recording is long: half of the most that it can have.
-const LONG_RECORDING: u64 = RECORDING_LIMIT / 2;
-
-/// How much of a log or of a recording is used when it is replaced even if most of it is kept: three quarters.
-const NEARLY_FULL: u64 = 4;
+/// A new log has at most a quarter of a log's limit, if enough units can be dropped.
+const LARGEST_PART: u64 = 4;
 
 /// How often the kept time is halved, from the longest one.
 const HALVINGS: u32 = 64;
 
-/// How much a channel keeps: log entries, and bytes of the rendition with the most.
+/// How much of a channel is counted: log entries, and bytes of the rendition with the most.
 #[derive(Clone, Copy, Drop)]
-struct KeptAmount {
+struct Amount {
     entries: u64,
     bytes: u64,
 }
 
-impl KeptAmount {
-    /// What a state keeps.
-    fn of(snapshot: &Snapshot) -> KeptAmount {
-        let mut kept = KeptAmount {
+impl Amount {
+    fn none() -> Amount {
+        Amount {
             entries: 0,
             bytes: 0,
-        };
+        }
+    }
+
+    /// What a state keeps.
+    fn kept(snapshot: &Snapshot) -> Amount {
+        let mut kept = Amount::none();
         for rendition in 0..rendition_count(snapshot) {
             if let Some(recording) = snapshot.recording(rendition) {
-                // the units, and the entries of the begin and the end
-                let units = recording.count().saturating_sub(recording.floor());
-                kept.entries = kept.entries.saturating_add(units).saturating_add(2);
-                let trimmed = recording.offset(recording.floor());
-                kept.bytes = kept.bytes.max(recording.total().saturating_sub(trimmed));
+                kept.add_units(recording, recording.floor());
             }
         }
         kept
     }
 
+    /// What no trim can drop: the units from the front of the live line on. They are in its window, or in no place yet.
+    fn least(snapshot: &Snapshot) -> Amount {
+        let Some(front) = snapshot.line().front() else {
+            return Amount::kept(snapshot);
+        };
+        let mut least = Amount::none();
+        for rendition in 0..rendition_count(snapshot) {
+            if let Some(recording) = snapshot.recording(rendition) {
+                least.add_units(recording, front.spots.get_or_zero(rendition).fragment);
+            }
+        }
+        least
+    }
+
+    /// Adds the units of a rendition from a number on, and the entries of its begin and its end.
+    fn add_units(&mut self, recording: &Recording, first: u64) {
+        let units = recording.count().saturating_sub(first);
+        self.entries = self.entries.saturating_add(units).saturating_add(2);
+        let bytes = recording.total().saturating_sub(recording.offset(first));
+        self.bytes = self.bytes.max(bytes);
+    }
+
     /// Whether it is more than a quarter of what a log and a recording can have.
     fn is_much(self) -> bool {
-        self.entries > LOG_LIMIT / NEARLY_FULL || self.bytes > RECORDING_LIMIT / NEARLY_FULL
+        self.entries > LOG_LIMIT / LARGEST_PART || self.bytes > RECORDING_LIMIT / LARGEST_PART
     }
 }
 
@@ -66,17 +84,20 @@ fn longest_recording(snapshot: &Snapshot) -> u64 {
     longest
 }
 
-/// Whether a channel should begin a new log: its log or a recording is long and at most half of it is kept, or it is nearly full.
+/// Whether a channel should begin a new log, by the policy of [`LogUse`].
 pub fn is_renewal_due(snapshot: &Snapshot) -> bool {
-    let (entries, bytes) = (snapshot.version(), longest_recording(snapshot));
-    if entries < LONG_LOG && bytes < LONG_RECORDING {
-        return false;
-    }
-    let kept = KeptAmount::of(snapshot);
-    (entries >= LONG_LOG && kept.entries <= entries / 2)
-        || (bytes >= LONG_RECORDING && kept.bytes <= bytes / 2)
-        || entries >= LOG_LIMIT - LOG_LIMIT / NEARLY_FULL
-        || bytes >= RECORDING_LIMIT - RECORDING_LIMIT / NEARLY_FULL
+    let (kept, least) = (Amount::kept(snapshot), Amount::least(snapshot));
+    let log = LogUse {
+        whole: snapshot.version(),
+        kept: kept.entries,
+        least: least.entries,
+    };
+    let recording = LogUse {
+        whole: longest_recording(snapshot),
+        kept: kept.bytes,
+        least: least.bytes,
+    };
+    log.is_log_due() || recording.is_recording_due()
 }
 
 /// Returns a channel with a new log. If a channel with a nearly full one keeps more than a quarter of what a log or a recording can have, its
@@ -85,7 +106,7 @@ pub fn renew_channel(alloc: Global, snapshot: &Arc<Snapshot>) -> Result<Arc<Snap
     let mut state = Arc::try_clone(snapshot)?;
     let mut keep_us = u64::MAX;
     for _ in 0..HALVINGS {
-        if !KeptAmount::of(&state).is_much() {
+        if !Amount::kept(&state).is_much() {
             break;
         }
         keep_us /= 2;

@@ -1,5 +1,8 @@
 //! Opens the folder of a journal.
 
+ghost use Rattle.std.specs.Prelude.{◌≤◌, ◌<◌, OnErr, OnOk};
+ghost use Rattle.hls_journal_store.specs.Numbers.{next_segment};
+
 use crate::batch::{Position, find_position, into_bytes};
 use crate::begun_log::{RESERVED_IDS, begin_records};
 use crate::boot_id::{is_same_boot, read_boot_id};
@@ -11,6 +14,7 @@ use crate::long_log::{is_renewal_due, renew_channel};
 use crate::media_files::MediaFiles;
 use crate::media_starts::MediaStarts;
 use crate::media_track::remove_before;
+use crate::next_segment::{is_stale, next_segment};
 use crate::older_format::check_format;
 use crate::renewal::renew_store;
 use crate::restored::{Source, count_bytes, count_synced, restore_prefix};
@@ -63,7 +67,7 @@ pub struct StoreStart {
 
 /// The channel of a log.
 #[derive(Drop)]
-struct LogChannel {
+pub(crate) struct LogChannel {
     snapshot: Arc<Snapshot>,
     start: StoreStart,
     /// How many of the log's records it is restored from.
@@ -89,7 +93,8 @@ struct ChannelFiles {
 }
 
 /// Opens the journal in a folder, which is made if it is missing, and restores its channel. `config.base` counts only for a new
-/// channel; another one has the base of its first record, with the run of the last process.
+/// channel; another one has the base of its first record, with the run of the last process. But its next segment must not have a
+/// lower number than the given base says: players have seen those below.
 ///
 /// If the machine ended before the journal was closed, and not everything was synced before it was reported, what players saw last
 /// may be lost. The channel then has the run `new_run`, a name that no other channel has: no path names other bytes than before.
@@ -98,7 +103,8 @@ struct ChannelFiles {
 ///
 /// # Errors
 /// `Busy`: another process has the folder. `Marked`: players have seen more than the log has. `Damaged`, `Channel`: the folder doesn't
-/// restore a channel with this configuration. `Disk`: a call on a file failed. `Memory`: an allocation failed.
+/// restore a channel with this configuration. `Stale`: its numbers are below those of the given base. `Disk`: a call on a file failed.
+/// `Memory`: an allocation failed.
 pub fn open_store<R: Files<File = File> + Threads + Sync>(
     rt: &R,
     alloc: Global,
@@ -206,8 +212,8 @@ fn find_files<R: Files<File = File>>(
     })
 }
 
-/// Returns the channel of a log: the restored one, or a new one if there is no record.
-fn find_channel<R: Files<File = File> + Threads + Sync>(
+/// Returns the channel of a log: the restored one, or a new one if there is no record. Writes nothing.
+pub(crate) fn find_channel<R: Files<File = File> + Threads + Sync>(
     rt: &R,
     alloc: Global,
     media: &str,
@@ -236,6 +242,7 @@ fn find_channel<R: Files<File = File> + Threads + Sync>(
         count_synced(&read.content.bodies).saturating_sub(1)
     };
     let restored = restore_prefix(rt, alloc, &source, records, synced)?;
+    check_numbers(&restored.snapshot, config.base())?;
     let start = StoreStart {
         is_new: false,
         version: restored.snapshot.version(),
@@ -253,6 +260,21 @@ fn find_channel<R: Files<File = File> + Threads + Sync>(
         records: restored.count.saturating_add(1),
         first: None,
     })
+}
+
+/// Refuses a restored channel whose lists would fall behind what players have seen: another process has served the channel since.
+fn check_numbers(snapshot: &Snapshot, given: &Base) -> Result<(), OpenFault>
+    ensures current { OnOk result (given.now.segments ≤ next_segment snapshot.now) }
+    ensures stale { OnErr result (next_segment snapshot.now < given.now.segments) }
+{
+    let served = given.segments();
+    if is_stale(snapshot, served) {
+        return Err(OpenFault::Stale {
+            next: next_segment(snapshot),
+            served,
+        });
+    }
+    Ok(())
 }
 
 /// What the first record says of the process that wrote it.
