@@ -3,8 +3,8 @@
 /// What each name means and what to change, in the order of the names. The last line has no line feed.
 pub const MEANINGS: &str = "\
 AfterRecording: the stop is after the last place, and all renditions are finished. Request a stop within the recording.
-AheadOfChannel: with serve --mend, a fragment starts more than --fill after the newest end of all renditions, while the other \
-renditions continue: its encoder's clock is wrong. Set the clock. If the clocks of all encoders jump, the channel continues by \
+AheadOfChannel: with serve --mend, a fragment starts more than --fill after the newest end of the other renditions, while these \
+continue: its encoder's clock is wrong, or it sends faster than the others. Set the clock. If the clocks of all encoders jump, the channel continues by \
 itself, after a discontinuity.
 BadBox: a box of an init section or of a fragment breaks ISO/IEC 14496-12: its children don't fill it, a field lies past its \
 end, a required box is missing or repeated, or its version is unknown. Send the stream exactly as the encoder wrote it; if you \
@@ -37,6 +37,7 @@ BeforeRecording: no kept place is at or before the start: it is before the recor
 or keep more (--keep).
 BindFailed: serve can't listen on the address: another program uses the port, the host doesn't have the address, or the port \
 requires other privileges. Give another address.
+Busy: another process has the journal. End it, or give each channel a journal of its own (--journal).
 Conflict: what was requested doesn't exist yet. Try again later.
 DataOutside: a sample's bytes lie outside the mdat of its fragment. The stream was edited, or its encoder writes wrong \
 offsets: send it as it was written.
@@ -57,16 +58,30 @@ InitChanged: an init section came that differs from the rendition's: the codec, 
 is sending. With serve --mend, one that differs only in bit rates, times, names and metadata counts as a repeat. Restore the \
 encoder's settings. For new settings start an empty channel with hls_channel anew NAME or serve --anew, and restart its \
 encoders: its playlists continue after a discontinuity.
+JournalDamaged: bytes of a journal's log that had been synced are damaged, at the byte after the name. Begin an empty channel: \
+serve --anew, or hls_channel anew NAME, which sets the journal aside.
+JournalOther: a journal is of a channel with another target, preferred length, epoch or ladder than the arguments. Give those of \
+before, or begin an empty channel: serve --anew, or hls_channel anew NAME, which sets the journal aside.
+JournalStale: the numbers in a journal are behind those that players have seen: another process has served the channel since, or \
+the journal is an old copy. Begin an empty channel above them: serve --anew with --base; hls_origin@NAME does so by itself, and \
+sets the journal aside.
 LedgerFull: the log has 4194304 entries, and takes no more. Start another process and point the encoders to it; fewer, longer \
 fragments fill the log more slowly. With serve --journal the log is replaced before it is full.
+Marked: players have seen more than the journal has, since its disk failed or was full. Begin an empty channel: serve --anew, or \
+hls_channel anew NAME, which sets the journal aside.
 MdatAlone: an mdat comes without a moof before it: the file isn't fragmented, or has samples before its first moof. Write it \
 with -movflags +frag_keyframe+delay_moov+default_base_moof.
 Memory: an allocation failed; the refused call changed nothing. Give the process more memory, or keep less (--keep), and try \
 again.
 MissingTag: a playlist has no EXT-X-TARGETDURATION, a URI without EXTINF, or an EXTINF without a URI. It may be truncated: \
 write it completely.
+MissingUnit: a journal's media don't have the unit of the record whose number follows, or have other bytes there: a file was \
+removed or damaged. Check the disk, and begin an empty channel: serve --anew, or hls_channel anew NAME, which sets the journal aside; \
+hls_programme reads what is whole.
 MoofWithoutMdat: a moof or moov comes before the mdat of the previous moof. Bytes are missing: send the stream as it was \
 written.
+NoChannel: the log of a journal doesn't begin with the record of a channel. Begin an empty channel: serve --anew, or hls_channel \
+anew NAME.
 NoCut: no plan has every segment within the target duration, so there is no playlist. Give a longer --target, or configure the \
 encoder to write sync samples (keyframes) more often.
 NoDecodeTime: a fragment has no decode time (tfdt), as in ismv and isml. Configure the encoder to write CMAF or plain \
@@ -128,7 +143,11 @@ UnknownRendition: the channel has no rendition with this number. Renditions are 
 arguments.
 UnknownTrack: a fragment has a traf of a track that isn't in the init section. Send the init section that belongs to the \
 stream.
+UnknownVersion: a journal has the format of another version of the program. Run that version, or begin an empty channel: serve \
+--anew, or hls_channel anew NAME, which sets the journal aside.
 Utf8: a playlist isn't UTF-8, or starts with a byte order mark. Write it in UTF-8 without one.
 WriteFailed: standard output couldn't be written to the end; what was written is incomplete. Make room, and run the command \
 again.
+WrongRecord: the record of a journal whose number follows doesn't follow from those before it. Begin an empty channel: serve --anew, \
+or hls_channel anew NAME, which sets the journal aside, and report it.
 ZeroScale: the timing track's timescale is 0. Change the encoder.";
