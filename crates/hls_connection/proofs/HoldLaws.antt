@@ -14,7 +14,7 @@ use Rattle.hls_api.specs.ConnectionStates.{Exchange, History, Serves, AreBodyAct
 use Rattle.hls_connection.specs.{declared.request_context.RequestContext.RequestContext, declared.receive.BodyTarget.BodyTarget, declared.receive.ReceivingBody.ReceivingBody}
 use Rattle.hls_connection.specs.{declared.state.ConnectionState.ConnectionState, declared.state.Transition.Transition, declared.state.WaitingResponse.WaitingResponse, declared.state.WritingResponse.WritingResponse, IngestStates.progress_of}
 use Rattle.hls_connection.specs.States.{BeginsBody, HasNoActs, IsHandled, IsNotOverIn, IsConsistent, LacksMore, IsIdleOrWaiting, IsInState, ReportsProgress, RespondsTo, RespondsWith, SuitsState, acts_of_step, awaited_state, current_acts, stage_of, state_after, steps_in, steps_of}
-use Rattle.hls_connection.specs.WithinBody.{HasBody, HasReceived, IsAsked, IsForTarget, IsReceiving, IsWaiting, IsWriting, SuitsTarget, action_into}
+use Rattle.hls_connection.specs.WithinBody.{HasBody, HasReceived, IsAsked, IsForTarget, IsReceiving, IsWaiting, IsWriting, SuitsTarget, action_into, client_of}
 use Rattle.hls_connection.specs.{declared.ingest_sink.IngestState.IngestState, RequestContexts.IsContextOf, Waits.deadline_in}
 use Rattle.hls_connection.{specs.NeedsMore.{EndsBeforeStep, NeedsMore}, proofs.CallLaws.replies_by}
 use Rattle.hls_api.specs.Programmes.{busy_answer}
@@ -292,7 +292,7 @@ within_waiting {channel} {w} x =
           route_is = route;
           answer = busy_answer;
           responds = programme_response (params_of channel x.discarded.at.head) plan.start plan.stop plan.file [] w.acts busy_answer x.waits
-              (plan_unfinished (programme_query_in plan.start plan.stop (query_of x.discarded.at.head.target)) plan.file [] w.acts plan.request busy_answer asked refl);
+              (plan_unfinished (client_of x.discarded.at.head) (programme_query_in plan.start plan.stop (query_of x.discarded.at.head.target)) plan.file [] w.acts plan.request busy_answer asked refl);
         })
 
 -- if the input ends within a body, the connection ends as cut short

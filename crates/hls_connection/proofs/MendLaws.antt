@@ -1,7 +1,7 @@
 -- What is submitted for the parts of a body whose units are mended.
-use Rattle.std.proofs.Common.{true, false, ◌≡◌, ◌≢◌, ◌∙◌, ◌<◌, ◌≤◌, ◌+◌, ◌^◌, ℕ, Some, None, Option, Result, Ok, Err, inl, inr, List, [], ◌∷◌, ◌++◌, All, length, get_or, take, refl, sym, subst, ap}
+use Rattle.std.proofs.Common.{true, false, ◌≡◌, ◌∙◌, ◌<◌, ◌≤◌, ◌+◌, ℕ, Some, None, Option, Result, Ok, Err, inl, inr, List, [], ◌∷◌, ◌++◌, All, length, get_or, take, refl, sym, subst, ap}
 use Rattle.std.proofs.lemmas.{List.{take_all, take_more}, List.Elements.All-get_or}
-use Rattle.hls_media_laws.specs.{InitData.InitData, declared.facts.Facts.Facts, declared.fault.MediaFault.MediaFault, IsInitOrUnit.{IsUnit, UnitsAreBounded}, UnitFacts.facts}
+use Rattle.hls_media_laws.specs.{InitData.InitData, declared.facts.Facts.Facts, declared.fault.MediaFault.MediaFault, IsInitOrUnit.{IsUnit}, UnitFacts.facts}
 use Rattle.hls_core_laws.specs.{declared.event.Event.TheVariants.Accept, declared.refusal.Refusal.TheVariants.Overlap, Moves.IsFittingAsSeen, State.State}
 use Rattle.hls_core.specs.declared.feed_fault.FeedFault.{FeedFault}
 use Rattle.hls_core.specs.declared.feed_fault.StreamFault.{StreamFault}
@@ -10,7 +10,7 @@ use Rattle.hls_mend_laws.specs.declared.settings.MendSettings.{MendSettings}
 use Rattle.hls_mend.specs.{MendedUnits.mended_view, declared.mended.MendedUnit.MendedUnit, declared.mended.ReadUnit.ReadUnit}
 use Rattle.hls_api.specs.declared.ingest.IngestCounts.{IngestCounts}
 use Rattle.hls_api.specs.Acts.{Act, AtMostOne, IsLook, Knowledge, Looked, RecordsLook, RecordsSubmit}
-use Rattle.hls_api.specs.Ingest.{ChoosesInit, DecidesUnit, FindsInit, HandlesPart, MaySubmit, MendsInit, MendsPart, Progress, RefusesAhead, RefusesUnitBefore, StopsBeforeUnit, SubmitsFiller, SubmitsFillers, end_after, with_mended}
+use Rattle.hls_api.specs.Ingest.{ChoosesInit, FindsInit, HandlesPart, MaySubmit, MendsInit, MendsPart, Progress, RefusesUnitBefore, StopsBeforeUnit, SubmitsFiller, SubmitsFillers, with_mended}
 use Rattle.hls_connection.{specs.IngestStates.{FindsInitOrFails, IsUsable}, proofs.PassLaws.{fits_unit, found_init}}
 use Rattle.hls_connection.specs.MendingStates.{ChoosesInitOrFails, DecidesUnitOrFails, HasReadUnit, IsPrepared, MakesMended, PreparesOrStops, SubmitsFillerOrFails, SubmitsFillersOrFail, SubmitsMended, with_acts, with_counts}
 use Rattle.hls_boxes.specs.declared.part.Part.TheVariants as parts
@@ -25,12 +25,12 @@ fails_to_choose r x y bytes feed_faults.Memory looks = (y.acts, looks, (y.acts, 
 
 -- if an init section was chosen and then handled as any other, the part was mended
 pub mends_init : (r : ℕ) (x z y : Progress) (bytes chosen : List ℕ) (result : Result (Unit {0}) FeedFault) → z ≡ with_acts x z.acts → ChoosesInit r x bytes chosen z.acts
-    → HandlesPart r z (parts.Init chosen) y result → y.end ≡ z.end → MendsInit r x bytes y result
-mends_init r x z y bytes chosen (Ok done) same chooses handles end =
-    (chosen, z.acts, chooses, subst (λ (p : Progress). HandlesPart r p (parts.Init chosen) y (Ok done)) same handles, end ∙ ap (λ (p : Progress). p.end) same)
-mends_init r x z y bytes chosen (Err (feed_faults.Refused fault)) same chooses handles end =
-    (chosen, z.acts, chooses, subst (λ (p : Progress). HandlesPart r p (parts.Init chosen) y (Err (feed_faults.Refused fault))) same handles, end ∙ ap (λ (p : Progress). p.end) same)
-mends_init r x z y bytes chosen (Err feed_faults.Memory) same chooses handles end = (z.acts, inr (Looked chooses.state, tt, chooses.looks), handles)
+    → HandlesPart r z (parts.Init chosen) y result → MendsInit r x bytes y result
+mends_init r x z y bytes chosen (Ok done) same chooses handles =
+    (chosen, z.acts, chooses, subst (λ (p : Progress). HandlesPart r p (parts.Init chosen) y (Ok done)) same handles)
+mends_init r x z y bytes chosen (Err (feed_faults.Refused fault)) same chooses handles =
+    (chosen, z.acts, chooses, subst (λ (p : Progress). HandlesPart r p (parts.Init chosen) y (Err (feed_faults.Refused fault))) same handles)
+mends_init r x z y bytes chosen (Err feed_faults.Memory) same chooses handles = (z.acts, inr (Looked chooses.state, tt, chooses.looks), handles)
 
 -- ---- what is submitted for a unit
 
@@ -51,14 +51,14 @@ fails_to_decide settings r x y u s (feed_faults.Refused fault) fails looks = abs
 fails_to_decide settings r x y u s feed_faults.Memory fails looks = inr (Looked s, tt, looks)
 
 -- if the state was looked at and the unit may be submitted, what is submitted is decided: what mending makes of the unit
-pub decides_submit : (settings : MendSettings) (r : ℕ) (x y : Progress) (u : ReadUnit) (s : State) (looked : List Act) (m : MendedUnit) → x.end ≢ Some u.facts.start → RecordsLook x.acts s looked
+pub decides_submit : (settings : MendSettings) (r : ℕ) (x y : Progress) (u : ReadUnit) (s : State) (looked : List Act) (m : MendedUnit) → RecordsLook x.acts s looked
     → MakesMended settings r x.init s u (Ok m) → MaySubmit settings r s u.facts looked y.acts true → y ≡ with_acts x y.acts → DecidesUnitOrFails settings r x u y (Ok m)
-decides_submit settings r x y u s looked m off looks makes may same = (same, λ init is. inr (off, (s, looked, looks, may, makes init is)))
+decides_submit settings r x y u s looked m looks makes may same = (same, λ init is. (s, looked, looks, may, makes init is))
 
 -- if the state was looked at and the unit may not be submitted, it is refused as ahead of the channel
-pub decides_refuse : (settings : MendSettings) (r : ℕ) (x y : Progress) (u : ReadUnit) (s : State) (looked : List Act) → x.end ≢ Some u.facts.start → RecordsLook x.acts s looked
+pub decides_refuse : (settings : MendSettings) (r : ℕ) (x y : Progress) (u : ReadUnit) (s : State) (looked : List Act) → RecordsLook x.acts s looked
     → MaySubmit settings r s u.facts looked y.acts false → y ≡ with_acts x y.acts → DecidesUnitOrFails settings r x u y (Err (feed_faults.Refused AheadOfChannel))
-decides_refuse settings r x y u s looked off looks may same = (refl, same, (off, (s, looked, looks, may)))
+decides_refuse settings r x y u s looked looks may same = (refl, same, (s, looked, looks, may))
 
 -- an init section is found with at most one look
 found_looked : (r : ℕ) (x : Progress) (init : InitData) (z : List Act) → FindsInit r x init z → AtMostOne IsLook x.acts z
@@ -66,9 +66,9 @@ found_looked r x init z (inl same) = inl same.1
 found_looked r x init z (inr looked) = inr (Looked looked.state, tt, looked.looks)
 
 -- if the init section was found and the unit read, preparing the unit ends as the decision did: decided, refused or out of memory
-pub prepared : (settings : MendSettings) (r : ℕ) (x z y : Progress) (bytes : List ℕ) (init : InitData) (f : Facts) (result : Result MendedUnit FeedFault) → FindsInitOrFails r x z (Ok tt) → z.end ≡ x.end
+pub prepared : (settings : MendSettings) (r : ℕ) (x z y : Progress) (bytes : List ℕ) (init : InitData) (f : Facts) (result : Result MendedUnit FeedFault) → FindsInitOrFails r x z (Ok tt)
     → z.init ≡ Some init → IsUnit init bytes f → DecidesUnitOrFails settings r z (record { facts = f; bytes = bytes }) y result → PreparesOrStops settings r x bytes y result
-prepared settings r x z y bytes init f (Ok m) found end there unit (same, decides) = record {
+prepared settings r x z y bytes init f (Ok m) found there unit (same, decides) = record {
   init = init;
   is = ap (λ (p : Progress). p.init) same ∙ there;
   decided = record {
@@ -76,33 +76,27 @@ prepared settings r x z y bytes init f (Ok m) found end there unit (same, decide
     finds = found_init r x z init found there;
     facts = f;
     reads = unit;
-    decides = subst (λ (e : Option ℕ). DecidesUnit settings r e init (record { facts = f; bytes = bytes }) z.acts (mended_view m) y.acts) end (decides init there);
+    decides = decides init there;
   };
   counts = ap (λ (p : Progress). p.counts) same ∙ found.0;
-  end = ap (λ (p : Progress). p.end) same ∙ end;
 }
-prepared settings r x z y bytes init f (Err (feed_faults.Refused fault)) found end there unit (is, same, refuses) = (
+prepared settings r x z y bytes init f (Err (feed_faults.Refused fault)) found there unit (is, same, refuses) = (
   subst (λ (q : StreamFault). RefusesUnitBefore settings r x bytes q y.acts) (sym is) (record {
     init = init;
     looked = z.acts;
     finds = found_init r x z init found there;
     facts = f;
     reads = unit;
-    refuses = subst (λ (e : Option ℕ). RefusesAhead settings r e f z.acts y.acts) end refuses;
+    refuses = refuses;
   }),
   ap (λ (p : Progress). p.counts) same ∙ found.0,
 )
-prepared settings r x z y bytes init f (Err feed_faults.Memory) found end there unit looks = inl (z.acts, found_looked r x init z.acts (found_init r x z init found there), (y.acts, looks, inl refl))
+prepared settings r x z y bytes init f (Err feed_faults.Memory) found there unit looks = inl (z.acts, found_looked r x init z.acts (found_init r x z init found there), (y.acts, looks, inl refl))
 
 -- a unit that was read under the init section that was found may be submitted to the state that was seen
 pub fits_read_unit : (r : ℕ) (known : Knowledge) (found : Option InitData) (u : ReadUnit) → IsUsable r known found → HasReadUnit found u → IsFittingAsSeen known.seen (Accept r u.facts u.bytes)
 fits_read_unit r known None u usable reads = absurd reads
 fits_read_unit r known (Some init) u usable reads = fits_unit r known (Some init) init u.facts u.bytes usable refl reads
-
--- a unit that was read ends below 2^64 ticks
-pub read_unit_ends : UnitsAreBounded → (found : Option InitData) (u : ReadUnit) → HasReadUnit found u → u.facts.start + u.facts.duration < 2 ^ 64
-read_unit_ends bounded None u reads = absurd reads
-read_unit_ends bounded (Some init) u reads = (bounded init u.bytes u.facts reads).end_fits
 
 -- ---- fillers
 
@@ -165,7 +159,7 @@ pub stops_preparing : (settings : MendSettings) (r : ℕ) (x y : Progress) (byte
 stops_preparing settings r x y bytes fault stops = inr (inr stops)
 
 -- if an allocation failed in the fillers of a prepared unit, the part failed for lack of memory
-pub stops_filling : (settings : MendSettings) (r : ℕ) (x z y : Progress) (bytes : List ℕ) (m : MendedUnit) (fault : FeedFault) → IsPrepared settings r x bytes z m
+stops_filling : (settings : MendSettings) (r : ℕ) (x z y : Progress) (bytes : List ℕ) (m : MendedUnit) (fault : FeedFault) → IsPrepared settings r x bytes z m
     → SubmitsFillersOrFail r z m.fillers.items y (Err fault) → MendsPart settings r x (parts.Unit bytes) y (Err fault)
 stops_filling settings r x z y bytes m (feed_faults.Refused fault) p fails = absurd fails
 stops_filling settings r x z y bytes m feed_faults.Memory p fails = inr (inr (inr (record {
@@ -180,11 +174,17 @@ stops_filling settings r x z y bytes m feed_faults.Memory p fails = inr (inr (in
   failed = fails.failed;
 })))
 
+-- the same for fillers that are those of the prepared unit
+pub stops_filling_of : (settings : MendSettings) (r : ℕ) (x z y : Progress) (bytes : List ℕ) (m : MendedUnit) (us : List ReadUnit) (fault : FeedFault) → IsPrepared settings r x bytes z m
+    → us ≡ m.fillers.items → SubmitsFillersOrFail r z us y (Err fault) → MendsPart settings r x (parts.Unit bytes) y (Err fault)
+stops_filling_of settings r x z y bytes m us fault p same fails =
+    stops_filling settings r x z y bytes m fault p (subst (λ (vs : List ReadUnit). SubmitsFillersOrFail r z vs y (Err fault)) same fails)
+
 -- if a filler of a prepared unit overlaps, the unit is left out and the body continues
 pub is_overtaken : (settings : MendSettings) (r : ℕ) (x z w y : Progress) (bytes : List ℕ) (m : MendedUnit) → IsPrepared settings r x bytes z m
-    → SubmitsFillersOrFail r z m.fillers.items w (Ok false) → y.acts ≡ w.acts → y.counts ≡ with_mended false (Err Overlap) w.counts → y.end ≡ None → y.init ≡ w.init
+    → SubmitsFillersOrFail r z m.fillers.items w (Ok false) → y.acts ≡ w.acts → y.counts ≡ with_mended false (Err Overlap) w.counts → y.init ≡ w.init
     → MendsPart settings r x (parts.Unit bytes) y (Ok tt)
-is_overtaken settings r x z w y bytes m p (same, stops) acts counts end init = inr (inl (record {
+is_overtaken settings r x z w y bytes m p (same, stops) acts counts init = inr (inl (record {
   init = p.init;
   mended = mended_view m;
   seen = z.acts;
@@ -198,7 +198,6 @@ is_overtaken settings r x z w y bytes m p (same, stops) acts counts end init = i
   fills = subst (λ (c : IngestCounts). SubmitsFillers r (take stops.count m.fillers.items) c z.acts w.counts stops.before) p.counts stops.fills;
   overlaps = subst (λ (after : List Act). RecordsSubmit stops.before (Accept r stops.filler.facts stops.filler.bytes) (Err Overlap) after) (sym acts) stops.overlaps;
   counts = counts;
-  ends = end;
   kept = init ∙ ap (λ (q : Progress). q.init) same ∙ p.is;
   result_is = refl;
 }))
@@ -217,7 +216,6 @@ mends_unit settings r x z w y bytes m result p (same, fills) s = inl (record {
   answer = s.answer;
   submits = s.submits;
   counts = s.counts;
-  ends = s.ends ∙ ap (end_after m.unit.facts s.answer) (ap (λ (q : Progress). q.end) same ∙ p.end);
   kept = s.kept ∙ ap (λ (q : Progress). q.init) same ∙ p.is;
   result_is = s.result_is;
 })

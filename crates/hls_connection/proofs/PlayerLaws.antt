@@ -44,37 +44,37 @@ responds_with_metrics q a b s (Err e) looks made = inl (inr (Looked s, inl (tt {
 -- ---- programmes
 
 -- a programme whose plan is awaited is answered with the plan as it was found later
-pub plan_shown : (said : Option CatchupQuery) (file : ProgrammeFile) (a b : List Act) (request : Request) (found : FoundPlan) (answer : ResponseData) → AwaitsPlanOf said a b request → HasFoundPlan request found
-    → ShowsFound file found answer → HandlesProgramme said file a b answer
-plan_shown (Some query) file a b request found answer x gets shows = (x.state, x.looks, (Planned request, x.starts, inr (x.added, (found, gets, shows))))
-plan_shown None file a b request found answer x gets shows = absurd x
+pub plan_shown : (client : ℕ) (said : Option CatchupQuery) (file : ProgrammeFile) (a b : List Act) (request : Request) (found : FoundPlan) (answer : ResponseData) → AwaitsPlanOf client said a b request → HasFoundPlan request found
+    → ShowsFound file found answer → HandlesProgramme client said file a b answer
+plan_shown client (Some query) file a b request found answer x gets shows = (x.state, x.looks, (Planned request, x.starts, inr (x.added, (found, gets, shows))))
+plan_shown client None file a b request found answer x gets shows = absurd x
 
 -- a programme whose plan is awaited is answered as unfinished
-pub plan_unfinished : (said : Option CatchupQuery) (file : ProgrammeFile) (a b : List Act) (request : Request) (answer : ResponseData) → AwaitsPlanOf said a b request
-    → ShowsFound file Unfinished answer → HandlesProgramme said file a b answer
-plan_unfinished (Some query) file a b request answer x shows = (x.state, x.looks, (Planned request, x.starts, inl (Unfinished, x.added, shows)))
-plan_unfinished None file a b request answer x shows = absurd x
+pub plan_unfinished : (client : ℕ) (said : Option CatchupQuery) (file : ProgrammeFile) (a b : List Act) (request : Request) (answer : ResponseData) → AwaitsPlanOf client said a b request
+    → ShowsFound file Unfinished answer → HandlesProgramme client said file a b answer
+plan_unfinished client (Some query) file a b request answer x shows = (x.state, x.looks, (Planned request, x.starts, inl (Unfinished, x.added, shows)))
+plan_unfinished client None file a b request answer x shows = absurd x
 
 -- a request whose plan is awaited has changed nothing
-pub plan_lost : (said : Option CatchupQuery) (a b : List Act) (request : Request) → AwaitsPlanOf said a b request → ActsChangeNothing a b
-plan_lost (Some query) a b request x = inr (Looked x.state, inl (tt {0}), x.looks)
-plan_lost None a b request x = absurd x
+pub plan_lost : (client : ℕ) (said : Option CatchupQuery) (a b : List Act) (request : Request) → AwaitsPlanOf client said a b request → ActsChangeNothing a b
+plan_lost client (Some query) a b request x = inr (Looked x.state, inl (tt {0}), x.looks)
+plan_lost client None a b request x = absurd x
 
 -- the response that says that an awaited plan is unfinished is one to the request, or failed and changed nothing
-pub unfinished_shown : {E : Type 0} (said : Option CatchupQuery) (file : ProgrammeFile) (a b : List Act) (request : Request) (response : Result ResponseData E) → AwaitsPlanOf said a b request
-    → IfOk response (λ answer. ShowsFound file Unfinished answer) → RespondsBy (HandlesProgramme said file) a b response
-unfinished_shown said file a b request (Ok answer) x shows = plan_unfinished said file a b request answer x shows
-unfinished_shown said file a b request (Err e) x shows = inl (plan_lost said a b request x)
+pub unfinished_shown : {E : Type 0} (client : ℕ) (said : Option CatchupQuery) (file : ProgrammeFile) (a b : List Act) (request : Request) (response : Result ResponseData E) → AwaitsPlanOf client said a b request
+    → IfOk response (λ answer. ShowsFound file Unfinished answer) → RespondsBy (HandlesProgramme client said file) a b response
+unfinished_shown client said file a b request (Ok answer) x shows = plan_unfinished client said file a b request answer x shows
+unfinished_shown client said file a b request (Err e) x shows = inl (plan_lost client said a b request x)
 
 -- a programme that the state doesn't have is answered with the refusal
-pub programme_refused : (query : CatchupQuery) (file : ProgrammeFile) (a b : List Act) (s : State) (answer : ResponseData) → RecordsLook a s b → StartsProgramme s query (Refused answer)
-    → HandlesProgramme (Some query) file a b answer
-programme_refused query file a b s answer looks starts = (s, looks, (Refused answer, starts, refl))
+pub programme_refused : (client : ℕ) (query : CatchupQuery) (file : ProgrammeFile) (a b : List Act) (s : State) (answer : ResponseData) → RecordsLook a s b → StartsProgramme s query (Refused answer)
+    → HandlesProgramme client (Some query) file a b answer
+programme_refused client query file a b s answer looks starts = (s, looks, (Refused answer, starts, refl))
 
 -- a programme that the state has is answered with its plan as it was when added
-pub programme_found : (query : CatchupQuery) (file : ProgrammeFile) (a b : List Act) (s : State) (request : Request) (found : FoundPlan) (answer : ResponseData) → RecordsLook a s b
-    → StartsProgramme s query (Planned request) → HasAddedPlan request found → ShowsFound file found answer → HandlesProgramme (Some query) file a b answer
-programme_found query file a b s request found answer looks starts added shows = (s, looks, (Planned request, starts, inl (found, added, shows)))
+pub programme_found : (client : ℕ) (query : CatchupQuery) (file : ProgrammeFile) (a b : List Act) (s : State) (request : Request) (found : FoundPlan) (answer : ResponseData) → RecordsLook a s b
+    → StartsProgramme s query (Planned request) → HasAddedPlan request client found → ShowsFound file found answer → HandlesProgramme client (Some query) file a b answer
+programme_found client query file a b s request found answer looks starts added shows = (s, looks, (Planned request, starts, inl (found, added, shows)))
 
 -- a method whose response may wait is allowed for a programme
 allowed : (start stop : TimePoint) (file : ProgrammeFile) (method : Method) → may_wait method ≡ true → allows (routes.Programme start stop file) method ≡ true
@@ -84,12 +84,12 @@ allowed start stop file method is = absurd (cc is)
 
 -- the reply for a programme is the response to a request with a method whose response may wait
 pub programme_response : (q : RequestParams) (start stop : TimePoint) (file : ProgrammeFile) (a b : List Act) (answer : ResponseData) → may_wait q.method ≡ true
-    → HandlesProgramme (programme_query_in start stop q.query) file a b answer → IsResponse q (routes.Programme start stop file) a b answer
+    → HandlesProgramme q.client (programme_query_in start stop q.query) file a b answer → IsResponse q (routes.Programme start stop file) a b answer
 programme_response q start stop file a b answer may shows = rw (allowed start stop file q.method may) shows
 
 -- the same of a response that was made or failed
 pub programme_begun : {E : Type 0} (q : RequestParams) (start stop : TimePoint) (file : ProgrammeFile) (acts : List Act) (response : Result ResponseData E) → may_wait q.method ≡ true
-    → IsMadeResponse (HandlesProgramme (programme_query_in start stop q.query) file [] acts) [] acts response → IsMadeResponse (IsResponse q (routes.Programme start stop file) [] acts) [] acts response
+    → IsMadeResponse (HandlesProgramme q.client (programme_query_in start stop q.query) file [] acts) [] acts response → IsMadeResponse (IsResponse q (routes.Programme start stop file) [] acts) [] acts response
 programme_begun q start stop file acts (Ok answer) may shows = programme_response q start stop file [] acts answer may shows
 programme_begun q start stop file acts (Err e) may (inl nothing) = inl nothing
 programme_begun q start stop file acts (Err e) may (inr (answer, shows)) = inr (answer, programme_response q start stop file [] acts answer may shows)

@@ -12,7 +12,7 @@ use Rattle.hls_connection.specs.{declared.state.ConnectionState.ConnectionState,
 use Rattle.hls_connection.specs.Traces.{ConnectionTrace, KeepsWaits, TraceWaits, trace_after_step}
 use Rattle.hls_connection.specs.Waits.{AnswersDue, AnswersWait, AnswersWith, IsAhead, IsAnswered, IsAwaitedDue, IsDeadline, IsFound, ShowsAwaited, StaysOrAnswers, awaited_by, awaited_route, deadline_after, deadline_by, deadline_in, has_time, is_unfinished, may_wait, plan_deadline_after, plan_wait_by, waits_in}
 use Rattle.hls_connection.specs.{RequestContexts.{ForContext, IsContextOf, IsDueFor, IsMadeResponse, IsResponse}, States.RespondsWith}
-use Rattle.hls_connection.specs.{WithinBody.IsAsked, declared.state.Awaited.Awaited, declared.wait.Found.Found, declared.wait.PlanWait.PlanWait}
+use Rattle.hls_connection.specs.{WithinBody.{IsAsked, client_of}, declared.state.Awaited.Awaited, declared.wait.Found.Found, declared.wait.PlanWait.PlanWait}
 use Rattle.hls_connection.proofs.PlayerLaws.{plan_lost, plan_shown, programme_response}
 use Rattle.hls_connection.specs.declared.state.Awaited.TheVariants as awaits
 use Rattle.hls_connection.specs.declared.wait.Found.TheVariants as founds
@@ -55,7 +55,7 @@ waiting_answer : (channel : ServedChannel) (h : RequestHead) (awaited : Awaited)
 waiting_answer channel h (awaits.Job id) (founds.Job found) acts a waits asked gets shows = rw (not_removed id (params_of channel h).method waits) (asked.1, (found, gets, shows))
 waiting_answer channel h (awaits.Plan plan) (founds.Plan (Ok found)) acts a waits asked gets shows =
     let said = programme_query_in plan.start plan.stop (query_of h.target) in
-    programme_response (params_of channel h) plan.start plan.stop plan.file [] acts a waits (plan_shown said plan.file [] acts plan.request found a asked gets shows)
+    programme_response (params_of channel h) plan.start plan.stop plan.file [] acts a waits (plan_shown (client_of h) said plan.file [] acts plan.request found a asked gets shows)
 waiting_answer channel h (awaits.Job id) (founds.Plan found) acts a waits asked gets shows = absurd gets
 waiting_answer channel h (awaits.Plan plan) (founds.Job found) acts a waits asked gets shows = absurd gets
 waiting_answer channel h (awaits.Plan plan) (founds.Plan (Err e)) acts a waits asked gets shows = absurd shows
@@ -63,7 +63,7 @@ waiting_answer channel h (awaits.Plan plan) (founds.Plan (Err e)) acts a waits a
 -- a request whose response waits has changed nothing
 waiting_lost : (h : RequestHead) (awaited : Awaited) (acts : List Act) → IsAsked h awaited acts → ActsChangeNothing [] acts
 waiting_lost h (awaits.Job id) acts asked = inl asked.1
-waiting_lost h (awaits.Plan plan) acts asked = plan_lost (programme_query_in plan.start plan.stop (query_of h.target)) [] acts plan.request asked
+waiting_lost h (awaits.Plan plan) acts asked = plan_lost (client_of h) (programme_query_in plan.start plan.stop (query_of h.target)) [] acts plan.request asked
 
 -- a response that was made of what was found, or failed, is one to the request that waited
 pub waiting_made : {E : Type 0} (channel : ServedChannel) (h : RequestHead) (awaited : Awaited) (found : Found) (acts : List Act) (response : Result ResponseData E) → may_wait (params_of channel h).method ≡ true → IsAsked h awaited acts

@@ -10,7 +10,7 @@ use Rattle.hls_core.specs.declared.feed_fault.FeedFault.TheVariants as feed_faul
 
 -- the progress of a body, from its state in the code
 abbrev pub progress_of : IngestState → Progress
-progress_of taken = record { acts = taken.acts; init = taken.init; counts = taken.counts; end = taken.end }
+progress_of taken = record { acts = taken.acts; init = taken.init; counts = taken.counts }
 
 -- a refused event as a fault of the body; an allocation failure isn't a refusal
 abbrev pub feed_fault_of : Refusal → FeedFault

@@ -2,14 +2,13 @@
 use Rattle.std.specs.Prelude.{◌≡◌, ◌<◌, ℕ, Bool, true, false, Option, Some, None, Result, Ok, Err, List, length, take, slice_index_or}
 use Rattle.hls_media_laws.specs.{InitData.InitData, IsInitOrUnit.IsUnit}
 use Rattle.hls_core_laws.specs.declared.{event.Event.TheVariants.Accept, refusal.Refusal.{Refusal, TheVariants.Overlap}, done.Done.Done}
-use Rattle.hls_core.specs.{declared.feed_fault.{FeedFault.FeedFault, StreamFault.TheVariants.AheadOfChannel}, Getters.recording_of}
+use Rattle.hls_core.specs.{declared.feed_fault.{FeedFault.FeedFault, StreamFault.TheVariants.AheadOfChannel}}
 use Rattle.hls_core_laws.specs.State.{State}
 use Rattle.hls_mend_laws.specs.declared.settings.MendSettings.{MendSettings}
 use Rattle.hls_mend.specs.{MendedUnits.mended_view, declared.mended.MendedUnit.MendedUnit, declared.mended.ReadUnit.ReadUnit}
 use Rattle.hls_api.specs.declared.ingest.IngestCounts.{IngestCounts}
 use Rattle.hls_api.specs.Acts.{Act, AtMostOne, IsFailedSubmit, IsLook, RecordsSubmit}
-use Rattle.hls_api.specs.GapLimits.{settings_for}
-use Rattle.hls_api.specs.Ingest.{ChoosesInit, DecidesPart, DecidesUnit, Progress, RefusesAhead, StopsBeforeUnit, SubmitsFiller, SubmitsFillers, end_after, mended_for, mended_result, with_mended}
+use Rattle.hls_api.specs.Ingest.{ChoosesInit, DecidesPart, DecidesUnit, Progress, RefusesAhead, StopsBeforeUnit, SubmitsFiller, SubmitsFillers, mended_in, mended_result, with_mended}
 use Rattle.hls_core.specs.declared.feed_fault.FeedFault.TheVariants as feed_faults
 
 -- the progress with other acts
@@ -33,16 +32,16 @@ ChoosesInitOrFails r x bytes y (Err feed_faults.Memory) = AtMostOne IsLook x.act
 
 -- what mending makes of a unit in a state; or an allocation failed
 abbrev pub MakesMended : MendSettings → ℕ → Option InitData → State → ReadUnit → Result MendedUnit FeedFault → Type 0
-MakesMended settings r found s u (Ok mended) = (init : InitData) → found ≡ Some init → mended_view mended ≡ mended_for (settings_for settings s r u.facts.start_us) init u (recording_of s r)
+MakesMended settings r found s u (Ok mended) = (init : InitData) → found ≡ Some init → mended_view mended ≡ mended_in settings r s init u
 MakesMended settings r found s u (Err (feed_faults.Refused fault)) = ⊥
 MakesMended settings r found s u (Err feed_faults.Memory) = Unit {0}
 
 -- what is submitted for a unit is decided; or it is refused as ahead of the channel; or an allocation failed
 abbrev pub DecidesUnitOrFails : MendSettings → ℕ → Progress → ReadUnit → Progress → Result MendedUnit FeedFault → Type 0
 DecidesUnitOrFails settings r x u y (Ok mended) =
-    (y ≡ with_acts x y.acts) × ((init : InitData) → x.init ≡ Some init → DecidesUnit settings r x.end init u x.acts (mended_view mended) y.acts)
+    (y ≡ with_acts x y.acts) × ((init : InitData) → x.init ≡ Some init → DecidesUnit settings r init u x.acts (mended_view mended) y.acts)
 DecidesUnitOrFails settings r x u y (Err (feed_faults.Refused fault)) =
-    (fault ≡ AheadOfChannel) × (y ≡ with_acts x y.acts) × RefusesAhead settings r x.end u.facts x.acts y.acts
+    (fault ≡ AheadOfChannel) × (y ≡ with_acts x y.acts) × RefusesAhead settings r u.facts x.acts y.acts
 DecidesUnitOrFails settings r x u y (Err feed_faults.Memory) = AtMostOne IsLook x.acts y.acts
 
 -- what is submitted for a unit was decided, and nothing is submitted yet
@@ -51,7 +50,6 @@ pub record IsPrepared (settings : MendSettings) (r : ℕ) (x : Progress) (bytes 
   pub is : y.init ≡ Some init
   pub decided : DecidesPart settings r x bytes init (mended_view mended) y.acts
   pub counts : y.counts ≡ x.counts
-  pub end : y.end ≡ x.end
 
 -- what is submitted for a unit was decided; or the unit was refused or an allocation failed, and it isn't submitted
 abbrev pub PreparesOrStops : MendSettings → ℕ → Progress → List ℕ → Progress → Result MendedUnit FeedFault → Type 0
@@ -90,11 +88,10 @@ SubmitsFillersOrFail r x fillers y (Ok false) = (y ≡ with_counts x y.counts y.
 SubmitsFillersOrFail r x fillers y (Err (feed_faults.Refused fault)) = ⊥
 SubmitsFillersOrFail r x fillers y (Err feed_faults.Memory) = StopsInFillers r x fillers y.acts
 
--- a unit is submitted, and the counts, the end and the result are by its answer
+-- a unit is submitted, and the counts and the result are by its answer
 pub record SubmitsMended (r : ℕ) (x : Progress) (u : ReadUnit) (changed : Bool) (y : Progress) (result : Result (Unit {0}) FeedFault) : Type 0 where
   pub answer : Result Done Refusal
   pub submits : RecordsSubmit x.acts (Accept r u.facts u.bytes) answer y.acts
   pub counts : y.counts ≡ with_mended changed answer x.counts
-  pub ends : y.end ≡ end_after u.facts answer x.end
   pub kept : y.init ≡ x.init
   pub result_is : result ≡ mended_result answer

@@ -8,7 +8,7 @@ use Rattle.hls_boxes.specs.Parts.{fault_at_end, stream_cut, text_fault}
 use Rattle.hls_core.specs.{declared.feed_fault.{StreamFault.StreamFault, FeedFault.FeedFault}, Streams.{EndsStream, Feeds, IsLeft, Reached}}
 use Rattle.hls_http.specs.{declared.framing.BodyFraming.BodyFraming, declared.request_action.RequestAction.RequestAction, Heads.ReadsLimitedHead, Actions.is_over, Actions.announced_len}
 use Rattle.hls_http.specs.{declared.request_action.RequestAction.TheVariants.{Ingest, Discard}, Bodies.{StepsThrough, IsOpen}}
-use Rattle.hls_http.specs.{Fields.{values, wait_of_values}, Methods.method_of, Requests.fields_of, declared.end.BodyEnd.BodyEnd}
+use Rattle.hls_http.specs.{Fields.{client_of_values, values, wait_of_values}, Methods.method_of, Requests.fields_of, declared.end.BodyEnd.BodyEnd}
 use Rattle.hls_http.specs.declared.end.DiscardEnd.{DiscardEnd}
 use Rattle.hls_event_loop.specs.declared.activity.ConnectionStage.{ConnectionStage}
 use Rattle.hls_api.specs.{declared.ingest.IngestStop.IngestStop, declared.route.Route.Route, declared.route.IngestTarget.IngestTarget, Acts.Act, Acts.Knowledge, Queries.programme_query_in, Routes.{query_of, takes_ingest}}
@@ -176,10 +176,14 @@ ReceivesFrom old unread new rest progress = (channel : ServedChannel) (stream fi
 abbrev pub preferred_wait : RequestHead → Option ℕ
 preferred_wait h = wait_of_values (values (codes "prefer") (fields_of h))
 
+-- the number of the client that a head names
+abbrev pub client_of : RequestHead → ℕ
+client_of h = client_of_values (values (codes "x-client") (fields_of h))
+
 -- the head lets the response wait for a job, and there are no acts; or the plan of a programme was awaited when it was asked for
 abbrev pub IsAsked : RequestHead → Awaited → List Act → Type 0
 IsAsked h (awaits.Job id) acts = (is_some (preferred_wait h) ≡ true) × (acts ≡ [])
-IsAsked h (awaits.Plan plan) acts = AwaitsPlanOf (programme_query_in plan.start plan.stop (query_of h.target)) [] acts plan.request
+IsAsked h (awaits.Plan plan) acts = AwaitsPlanOf (client_of h) (programme_query_in plan.start plan.stop (query_of h.target)) [] acts plan.request
 
 -- a request for a job's status or for a programme, whose body was discarded whole, and whose response may wait
 pub record IsWaiting (channel : ServedChannel) (stream first : List ℕ) (w : WaitingResponse) (unread : List ℕ) : Type 0 where

@@ -9,7 +9,9 @@ use crate::act_log::{ActLog, ActNote};
 use crate::keeper::Keeper;
 use hls_api::catchup_query::CatchupQuery;
 use hls_api::encoder_readings::EncoderReadings;
-use hls_api::{ProgrammeStart, Response, live_playlist_response, start_programme};
+use hls_api::{
+    ProgrammeStart, Response, live_playlist_response, metrics_response, start_programme,
+};
 use hls_catchup::{Job, JobFault, Request};
 use hls_core::snapshot::Snapshot;
 use hls_core::step::step;
@@ -130,6 +132,7 @@ impl Keeper for Alone {
         &self,
         snapshot: &Arc<Snapshot>,
         request: Request,
+        _client: u64,
     ) -> Result<FoundPlan, AllocError> {
         plan_now(self.alloc, snapshot, request)
     }
@@ -152,7 +155,7 @@ impl Keeper for Alone {
         0 // a plan is made when it is asked for
     }
 
-    fn measured(&self) -> Measured {
-        Measured::nothing()
+    fn metrics_response(&mut self, state: &Arc<Snapshot>) -> Result<Response, AllocError> {
+        metrics_response(self.alloc, state, self.jobs.len(), &Measured::nothing())
     }
 }

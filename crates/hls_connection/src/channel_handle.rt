@@ -11,7 +11,7 @@ use crate::session::session_on;
 use crate::shared_channel::SharedChannel;
 use hls_api::catchup_query::CatchupQuery;
 use hls_api::encoder_readings::EncoderReadings;
-use hls_api::{PlaylistCache, ProgrammeCache, ProgrammeStart, Response};
+use hls_api::{MetricsMemory, PlaylistCache, ProgrammeCache, ProgrammeStart, Response};
 use hls_catchup::{Job, JobFault, Request};
 use hls_core::snapshot::Snapshot;
 use hls_core_laws::done::Done;
@@ -19,7 +19,6 @@ use hls_core_laws::event::Event;
 use hls_core_laws::refusal::Refusal;
 use hls_http::{Session, SessionEnd};
 use hls_jobs::FoundPlan;
-use hls_metrics::Measured;
 use hls_playlists::MediaUris;
 use hls_turn::Pass;
 use http_server::Log;
@@ -56,6 +55,7 @@ pub struct ChannelHandle<'a, T: Wait> {
     pub now_ms: u64,
     lists: PlaylistCache,
     programmes: ProgrammeCache,
+    metrics: MetricsMemory,
     /// The last known version of a state that the pass saw; 0 before the first.
     pub seen: u64,
     /// Whether the pass may have seen a later state since: the last event was a repeat or refused, or the last look failed.
@@ -69,7 +69,7 @@ pub struct ChannelHandle<'a, T: Wait> {
 }
 
 impl<'a, T: Wait> ChannelHandle<'a, T> {
-    /// A handle with a pass of the channel's turn.
+    /// A handle with a pass of the channel's turn, and with memory that is set aside for its metrics, if there is any.
     pub fn new(
         rt: &'a T,
         alloc: Global,
@@ -80,6 +80,7 @@ impl<'a, T: Wait> ChannelHandle<'a, T> {
         ensures known { result.pass.known ≡ pass.known }
         ensures acts { result.acts ≡ [] }
     {
+        let metrics = MetricsMemory::new(alloc, pass.rendition_count());
         ChannelHandle {
             rt,
             alloc,
@@ -89,6 +90,7 @@ impl<'a, T: Wait> ChannelHandle<'a, T> {
             now_ms: 0,
             lists: PlaylistCache::new(alloc),
             programmes: ProgrammeCache::new(alloc),
+            metrics,
             seen: 0,
             is_unknown: true,
             has_read_job: Cell::new(false),
@@ -188,9 +190,11 @@ impl<'a, T: Wait> Keeper for ChannelHandle<'a, T> {
         &self,
         snapshot: &Arc<Snapshot>,
         request: Request,
+        client: u64,
     ) -> Result<FoundPlan, AllocError> {
         self.has_read_job.set(true);
-        self.channel.jobs.find_or_plan(self.rt, snapshot, request)
+        let jobs = self.channel.jobs;
+        jobs.find_or_plan(self.rt, snapshot, request, client)
     }
 
     fn find_plan(&self, request: Request) -> Result<FoundPlan, AllocError> {
@@ -212,8 +216,10 @@ impl<'a, T: Wait> Keeper for ChannelHandle<'a, T> {
         self.channel.plan_wait_ms
     }
 
-    fn measured(&self) -> Measured {
-        self.channel.measurements.measured()
+    fn metrics_response(&mut self, state: &Arc<Snapshot>) -> Result<Response, AllocError> {
+        let jobs = self.job_count();
+        let measured = self.channel.measurements.measured();
+        self.metrics.show(self.alloc, state, jobs, &measured)
     }
 }
 

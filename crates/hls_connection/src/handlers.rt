@@ -1,9 +1,6 @@
 //! Handlers: from a request whose body was discarded, and the channel's keeper, to a response.
 
-ghost use Rattle.std.specs.Prelude.{◌≡◌, ℕ, Some, None, IfOk, true, false};
-ghost use Rattle.hls_catchup.specs.Jobs.Shared.{HasCounted};
-ghost use Rattle.hls_metrics.specs.declared.measured.Measured.{Measured as MeasuredData};
-ghost use Rattle.hls_api.specs.Responses as replies;
+ghost use Rattle.std.specs.Prelude.{◌≡◌, Some, None, IfOk, true, false};
 ghost use Rattle.hls_api.specs.Exchanges.{AddsCatchupJob, HandlesCatchup, HandlesProgramme, FinishesRendition, IsForPlayer, IsServedBy, ServesJob, shown_if, shown_to_player};
 ghost use Rattle.hls_api.specs.{Exchanges.IsJobResponse, Acts.ActsExtend};
 ghost use Rattle.hls_connection.specs.Plans.{BeginsProgramme};
@@ -21,9 +18,8 @@ use hls_api::{
     ProgrammeStart, Response, SegmentSpan, added_response, fault_response, file_response,
     finish_response, found_plan_response, init_response, invalid_programme_response, job_response,
     live_master_response, make_request, media_response, method_not_allowed_response,
-    metrics_response, path_master_response, query_response, recent_playlist_response,
-    removed_response, resolve_query, run_response, segment_response, since_response,
-    status_response,
+    path_master_response, query_response, recent_playlist_response, removed_response,
+    resolve_query, run_response, segment_response, since_response, status_response,
 };
 use hls_catchup::{Job, JobFault, Request};
 use hls_core::snapshot::Snapshot;
@@ -168,15 +164,17 @@ pub(crate) enum ProgrammeStep {
     Await(Request),
 }
 
-/// Looks, and returns the response to a query for a programme, unless its plan is unfinished. It is planned if nothing is known of it.
+/// Looks, and returns the response to a client's query for a programme, unless its plan is unfinished. It is planned if nothing is known of
+/// it.
 fn begin_query<K: Keeper>(
     keeper: &mut K,
     acts: &mut ActLog,
+    client: u64,
     query: CatchupQuery,
     file: ProgrammeFile,
 ) -> Result<ProgrammeStep, AllocError>
     ensures act_steps { ActsExtend K.other_actors (K.known keeper.old) acts.old (K.known keeper.new) acts.new }
-    ensures begins { BeginsProgramme (Some query) file acts.old acts.new result }
+    ensures begins { BeginsProgramme client (Some query) file acts.old acts.new result }
 {
     let state = look(keeper, acts)?;
     let alloc = keeper.alloc();
@@ -184,7 +182,7 @@ fn begin_query<K: Keeper>(
         ProgrammeStart::Planned(request) => request,
         ProgrammeStart::Refused(response) => return Ok(ProgrammeStep::Respond(response)),
     };
-    match keeper.find_or_plan(&state, request)? {
+    match keeper.find_or_plan(&state, request, client)? {
         FoundPlan::Unfinished => Ok(ProgrammeStep::Await(request)),
         found => Ok(ProgrammeStep::Respond(found_plan_response(alloc, &found, file)?)),
     }
@@ -194,14 +192,15 @@ fn begin_query<K: Keeper>(
 pub(crate) fn begin_programme<K: Keeper>(
     keeper: &mut K,
     acts: &mut ActLog,
+    client: u64,
     query: QueryResult,
     file: ProgrammeFile,
 ) -> Result<ProgrammeStep, AllocError>
     ensures act_steps { ActsExtend K.other_actors (K.known keeper.old) acts.old (K.known keeper.new) acts.new }
-    ensures begins { ForQuery query (λ said. BeginsProgramme said file acts.old acts.new result) }
+    ensures begins { ForQuery query (λ said. BeginsProgramme client said file acts.old acts.new result) }
 {
     match query? {
-        Some(query) => begin_query(keeper, acts, query, file),
+        Some(query) => begin_query(keeper, acts, client, query, file),
         None => Ok(ProgrammeStep::Respond(invalid_programme_response(keeper.alloc())?)),
     }
 }
@@ -210,13 +209,14 @@ pub(crate) fn begin_programme<K: Keeper>(
 fn show_programme<K: Keeper>(
     keeper: &mut K,
     acts: &mut ActLog,
+    client: u64,
     query: QueryResult,
     file: ProgrammeFile,
 ) -> Result<Response, AllocError>
     ensures act_steps { ActsExtend K.other_actors (K.known keeper.old) acts.old (K.known keeper.new) acts.new }
-    ensures answers { ForQuery query (λ said. RespondsBy (HandlesProgramme said file) acts.old acts.new result) }
+    ensures answers { ForQuery query (λ said. RespondsBy (HandlesProgramme client said file) acts.old acts.new result) }
 {
-    match begin_programme(keeper, acts, query, file)? {
+    match begin_programme(keeper, acts, client, query, file)? {
         ProgrammeStep::Respond(response) => Ok(response),
         ProgrammeStep::Await(_) => {
             found_plan_response(keeper.alloc(), &FoundPlan::Unfinished, file)
@@ -242,7 +242,7 @@ fn handle_route<K: Keeper>(
         Route::Finish(rendition) => return finish_rendition(keeper, acts, rendition),
         Route::CatchUp => return add_catchup_job(keeper, acts, context.query),
         Route::Programme(_, _, file) => {
-            return show_programme(keeper, acts, context.query, file);
+            return show_programme(keeper, acts, context.head.client, context.query, file);
         }
         _ => {}
     }
@@ -262,17 +262,9 @@ fn handle_route<K: Keeper>(
             let jobs = keeper.job_count();
             status_response(keeper.alloc(), &state, jobs)
         }
-        Route::Metrics => show_metrics(&*keeper, &state),
+        Route::Metrics => keeper.metrics_response(&state),
         _ => show_player(keeper, context, route, state),
     }
-}
-
-/// Responds with the metrics. What was measured has two kilobytes, for which no other request clears a place.
-fn show_metrics<K: Keeper>(keeper: &K, state: &Arc<Snapshot>) -> Result<Response, AllocError>
-    ensures { IfOk result (λ a. (jobs : ℕ) × HasCounted jobs × ((measured : MeasuredData) × (a ≡ replies.metrics_answer state.now.value jobs measured))) }
-{
-    let (jobs, measured) = (keeper.job_count(), keeper.measured());
-    metrics_response(keeper.alloc(), state, jobs, &measured)
 }
 
 /// What players load: a playlist by paths, an init section, or a segment.

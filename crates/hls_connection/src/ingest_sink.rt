@@ -26,8 +26,6 @@ pub struct IngestState {
     pub init: Option<Init>,
     /// How many parts were accepted.
     pub counts: IngestCounts,
-    /// The end in ticks of the last unit that was recorded of it, if units are mended.
-    pub end: Option<u64>,
     /// The keeper's acts for it.
     pub acts: ActLog,
 }
@@ -48,7 +46,6 @@ impl IngestState {
                 filled: 0,
                 dropped: 0,
             },
-            end: None,
         }
     }
 }
@@ -113,7 +110,6 @@ impl<K: Keeper> IngestSink<K> {
         ensures usable { IsUsable self.now.encoder.rendition (K.known keeper.new) taken.new.init }
         ensures act_steps { ActsExtend K.other_actors (K.known keeper.old) taken.old.acts (K.known keeper.new) taken.new.acts }
         ensures yields { HandlesPart self.now.encoder.rendition (progress_of taken.old) (Part.Init bytes) (progress_of taken.new) result }
-        ensures end { taken.new.end ≡ taken.old.end }
     {
         let init = match read_init(keeper.alloc(), &bytes) {
             Ok(init) => init,
@@ -140,7 +136,6 @@ impl<K: Keeper> IngestSink<K> {
         ensures usable { IsUsable self.now.encoder.rendition (K.known keeper.new) taken.new.init }
         ensures act_steps { ActsExtend K.other_actors (K.known keeper.old) taken.old.acts (K.known keeper.new) taken.new.acts }
         ensures finds { FindsInitOrFails self.now.encoder.rendition (progress_of taken.old) (progress_of taken.new) result }
-        ensures end { taken.new.end ≡ taken.old.end }
     {
         if taken.init.is_some() {
             return Ok(());

@@ -1,11 +1,12 @@
 //! What a session uses of a channel: its state, and the jobs of catch-up recordings.
 
-ghost use Rattle.std.specs.Prelude.{◌≡◌, IfOk, length};
+ghost use Rattle.std.specs.Prelude.{◌≡◌, ℕ, IfOk, length};
 ghost use Rattle.hls_core_laws.specs.{IsState.IsState, Moves.IsFittingAsSeen, PassView.{MaySeeLater, Looks, Submits}};
 ghost use Rattle.hls_catchup.specs.Jobs.Shared.{HasCounted, HasRemoved};
 ghost use Rattle.hls_api.specs.Acts.{Added, Knowledge, ReadEncoders, RecordsLookResult, Removed, knowledge_after, view_of};
 ghost use Rattle.hls_api.specs.{JobTable.{IsAddResult, IsGetResult}, OtherActors.{MayBecome, OtherActors, HasMet}};
 ghost use Rattle.hls_jobs.specs.Plans.{HasAddedPlan, HasFoundPlan};
+ghost use Rattle.hls_metrics.specs.declared.measured.Measured.{Measured as MeasuredData};
 ghost use Rattle.hls_api.specs.Acts as acts;
 ghost use Rattle.hls_api.specs.Players.{live_list_answer};
 ghost use Rattle.hls_api.specs.Programmes.{StartsProgramme};
@@ -20,7 +21,6 @@ use hls_core_laws::done::Done;
 use hls_core_laws::event::Event;
 use hls_core_laws::refusal::Refusal;
 use hls_jobs::FoundPlan;
-use hls_metrics::Measured;
 use hls_playlists::MediaUris;
 use std::alloc::{AllocError, Global};
 use std::sync::Arc;
@@ -94,14 +94,15 @@ pub trait Keeper {
         ensures known { known self.new ≡ knowledge_after (known self.old) (Removed id result) }
         ensures removes { HasRemoved id result };
 
-    /// Returns what is known of a request's programme; one that nothing is known of is planned from the snapshot, which has it, unless too
-    /// many are.
+    /// Returns what is known of a request's programme; one that nothing is known of is planned from the snapshot, which has it, in the turn
+    /// of the client of this number, unless too many are.
     fn find_or_plan(
         &self,
         snapshot: &Arc<Snapshot>,
         request: Request,
+        client: u64,
     ) -> Result<FoundPlan, AllocError>
-        ensures { IfOk result (HasAddedPlan request) };
+        ensures { IfOk result (HasAddedPlan request client) };
 
     /// Returns what is known of a request's programme.
     fn find_plan(&self, request: Request) -> Result<FoundPlan, AllocError>
@@ -111,7 +112,7 @@ pub trait Keeper {
     fn job_count(&self) -> usize
         ensures { HasCounted result };
 
-    /// Returns what is known of the renditions' encoders now, for a unit that starts so far after the newest end of all renditions, in
+    /// Returns what is known of the renditions' encoders now, for a unit that starts so far after the channel's end, in
     /// microseconds. No contract covers it.
     fn read_encoders(&mut self, ahead_us: u64) -> EncoderReadings
         ensures { known self.new ≡ knowledge_after (known self.old) (ReadEncoders result) };
@@ -119,6 +120,9 @@ pub trait Keeper {
     /// How long a response waits for a programme's plan, in milliseconds; 30 seconds at most. No contract covers it.
     fn plan_wait_ms(&self) -> u64;
 
-    /// Returns what the server around the channel measured. No contract covers the numbers.
-    fn measured(&self) -> Measured;
+    /// Returns the response with the metrics of a state, in memory that may be set aside. No contract covers what the server around the
+    /// channel measured.
+    fn metrics_response(&mut self, state: &Arc<Snapshot>) -> Result<Response, AllocError>
+        ensures known { known self.new ≡ known self.old }
+        ensures metrics { IfOk result (λ a. (jobs : ℕ) × HasCounted jobs × ((measured : MeasuredData) × (a ≡ replies.metrics_answer state.now.value jobs measured))) };
 }

@@ -1,8 +1,8 @@
 //! An encoder's body whose units are mended: what is submitted for each part.
 
-ghost use Rattle.std.specs.Prelude.{◌≡◌, ◌<◌, ◌+◌, ◌^◌, All, IfOk};
+ghost use Rattle.std.specs.Prelude.{◌≡◌, All, IfOk};
 ghost use Rattle.hls_media_laws.specs.IsInitOrUnit.{IsUnit};
-ghost use Rattle.hls_api.specs.{Acts.ActsExtend, Ingest.MaySubmit, Ingest.MendsInit, Ingest.MendsPart, Ingest.end_after as end_by, Ingest.with_filler as counts_with_filler, Ingest.with_mended as counts_with_mended, Ingest.mended_result as result_of};
+ghost use Rattle.hls_api.specs.{Acts.ActsExtend, Ingest.MaySubmit, Ingest.MendsInit, Ingest.MendsPart, Ingest.with_filler as counts_with_filler, Ingest.with_mended as counts_with_mended, Ingest.mended_result as result_of};
 ghost use Rattle.hls_connection.specs.IngestStates.{IsUsable, progress_of};
 ghost use Rattle.hls_connection.specs.MendingStates.{ChoosesInitOrFails, DecidesUnitOrFails, HasReadUnit, MakesMended, PreparesOrStops, SubmitsFillerOrFails, SubmitsFillersOrFail, SubmitsMended, with_acts};
 ghost use Rattle.hls_mend.specs.MendedUnits.{as_sent as sent_alone, mended_view};
@@ -22,9 +22,8 @@ use hls_core_laws::event::Event;
 use hls_core_laws::refusal::Refusal;
 use hls_media::read_facts;
 use hls_media_laws::facts::Facts;
-use hls_media_laws::laws::units_are_bounded;
 use hls_mend::mended::{MendedUnit, ReadUnit};
-use hls_mend::{is_same_to_decoders, mend_unit};
+use hls_mend::{declared_rate, is_same_to_decoders, mend_unit};
 use hls_mend_laws::settings::MendSettings;
 use std::alloc::Global;
 
@@ -54,18 +53,6 @@ fn with_mended(
         Err(_) => {}
     }
     counts
-}
-
-/// The end of the body's last recorded unit after a unit was submitted. After one that overlaps it isn't known.
-fn end_after(facts: Facts, answer: Result<Done, Refusal>, end: Option<u64>) -> Option<u64>
-    requires { facts.start + facts.duration < 2 ^ 64 }
-    ensures { result ≡ end_by facts answer end }
-{
-    match answer {
-        Ok(Done::New { .. }) => Some(facts.start + facts.duration),
-        Err(Refusal::Overlap) => None,
-        _ => end,
-    }
 }
 
 /// The result for the body of a unit that was submitted: it continues after one that overlaps.
@@ -153,12 +140,13 @@ impl<K: Keeper> IngestSink<K> {
         ensures may { MaySubmit settings self.now.encoder.rendition state.now facts taken.old.acts taken.new.acts result }
         ensures same { progress_of taken.new ≡ with_acts (progress_of taken.old) taken.new.acts }
     {
-        if !is_ahead(settings.fill_us, state, facts.start_us) {
+        let rendition = self.encoder.rendition;
+        if !is_ahead(settings.fill_us, state, rendition, facts.start_us) {
             return true;
         }
-        let ahead = ahead_us(state, facts.start_us);
+        let ahead = ahead_us(state, rendition, facts.start_us);
         let readings = read_encoders(keeper, &mut taken.acts, ahead);
-        is_jump_accepted(state, self.encoder.rendition, &readings)
+        is_jump_accepted(state, rendition, &readings)
     }
 
     /// What mending makes of a unit in a state.
@@ -183,13 +171,14 @@ impl<K: Keeper> IngestSink<K> {
         };
         let start_us = unit.facts.start_us;
         let settings = settings_for(settings, state, self.encoder.rendition, start_us);
-        match mend_unit(keeper.alloc(), settings, init, recording, unit) {
+        let bandwidth = declared_rate(state.config().renditions(), self.encoder.rendition);
+        match mend_unit(keeper.alloc(), settings, bandwidth, init, recording, unit) {
             Ok(mended) => Ok(mended),
             Err(_) => Err(FeedFault::Memory),
         }
     }
 
-    /// Decides what is submitted for a unit. The state is looked at only if the unit doesn't start at the end of the body's last one.
+    /// Decides what is submitted for a unit, by a look.
     #[tactic(auto, using(crate::proofs::MendLaws::fails_to_decide, crate::proofs::MendLaws::decides_submit, crate::proofs::MendLaws::decides_refuse))]
     fn decide_unit(
         &self,
@@ -207,9 +196,6 @@ impl<K: Keeper> IngestSink<K> {
         ensures filled { IfOk result (λ m. All (HasReadUnit taken.new.init) m.fillers.items) }
     {
         let facts = unit.facts;
-        if taken.end == Some(facts.start) {
-            return Ok(as_sent(keeper.alloc(), unit));
-        }
         let Ok(state) = look(keeper, &mut taken.acts) else {
             return Err(FeedFault::Memory);
         };
@@ -318,22 +304,19 @@ impl<K: Keeper> IngestSink<K> {
         ensures act_steps { ActsExtend K.other_actors (K.known keeper.old) taken.old.acts (K.known keeper.new) taken.new.acts }
         ensures submits { SubmitsMended self.now.encoder.rendition (progress_of taken.old) unit is_changed (progress_of taken.new) result }
     {
-        units_are_bounded();
-        let facts = unit.facts;
         let event = Event::Accept {
             rendition: self.encoder.rendition,
-            facts,
+            facts: unit.facts,
             bytes: unit.bytes,
         };
         let answer = submit(keeper, &mut taken.acts, event);
         taken.counts = with_mended(taken.counts, is_changed, answer);
-        taken.end = end_after(facts, answer, taken.end);
         into_result(answer)
     }
 
     /// Submits what mending makes of a unit. If the rendition was filled by others after the look, the unit is left out, and the next one is
     /// decided by another look: what follows an overlapping filler would leave a gap.
-    #[tactic(auto, using(crate::proofs::MendLaws::stops_preparing, crate::proofs::MendLaws::stops_filling))]
+    #[tactic(auto, using(crate::proofs::MendLaws::stops_preparing))]
     pub(crate) fn mend_unit(
         &self,
         settings: MendSettings,
@@ -350,7 +333,6 @@ impl<K: Keeper> IngestSink<K> {
         let is_filled = self.submit_fillers(taken, keeper, &mended.fillers)?;
         if !is_filled {
             taken.counts = with_mended(taken.counts, false, Err(Refusal::Overlap));
-            taken.end = None;
             return Ok(());
         }
         self.submit_mended(taken, keeper, mended.unit, mended.is_changed)

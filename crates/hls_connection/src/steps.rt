@@ -162,7 +162,13 @@ fn step_programme<K: Keeper, O: Observer>(
     ensures act_steps { ActsExtend K.other_actors (K.known keeper.old) acts (K.known keeper.new) (acts_of_step result) }
     ensures proceeds { (now : Option ℕ) → IsDeadline now None (Some wait.deadline_ms) → Proceeds now 65538 result }
 {
-    let begun = begin_programme(keeper, &mut acts, context.query, wait.file);
+    let begun = begin_programme(
+        keeper,
+        &mut acts,
+        context.head.client,
+        context.query,
+        wait.file,
+    );
     let alloc = keeper.alloc();
     match begun {
         Ok(ProgrammeStep::Await(request)) => {

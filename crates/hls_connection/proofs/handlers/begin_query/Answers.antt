@@ -16,5 +16,5 @@ returns-in_err-found_plan_response-in_default g c = record {
 pub returns : goal.returns
 returns g c = record {
   act_steps = acts_kept _ _ _ _ _ _ c.start_programme.ensures.known c.in_ok-state.ensures.act_steps;
-  begins = planned_begun _ _ _ _ _ _ _ _ _ c.in_ok-state.ensures.looks c.in_ok-request.ensures.starts c.in-Planned.is c.in_ok-found.ensures c.in_ok-found_plan_response-in_default.ensures;
+  begins = planned_begun _ _ _ _ _ _ _ _ _ _ c.in_ok-state.ensures.looks c.in_ok-request.ensures.starts c.in-Planned.is c.in_ok-found.ensures c.in_ok-found_plan_response-in_default.ensures;
 }

@@ -19,12 +19,12 @@ returns-in-Media-clause-answers g c = λ channel h context there.
 
 pub returns-in-Programme-clause-answers : goal.returns-in-Programme-clause-answers
 returns-in-Programme-clause-answers g c = λ channel h context there.
-    rw c.in-Programme.is (c.show_programme.ensures.answers _ (rw (there ∙ ap Some c.in-Programme.is) at context.query))
+    rw c.in-Programme.is (rw context.head.client at (c.show_programme.ensures.answers _ (rw (there ∙ ap Some c.in-Programme.is) at context.query)))
 
 pub returns-in-Metrics-clause-answers : goal.returns-in-Metrics-clause-answers
 returns-in-Metrics-clause-answers g c = λ channel h context there.
     rw c.in-Metrics.is
-    (responds_with_metrics (params_of channel h) c.args.acts.now c.look.new.acts c.in_ok-state.state.value c.show_metrics.result c.in_ok-state.ensures.looks c.show_metrics.ensures)
+    (responds_with_metrics (params_of channel h) c.args.acts.now c.look.new.acts c.in_ok-state.state.value c.metrics_response.result c.in_ok-state.ensures.looks c.metrics_response.ensures.metrics)
 
 pub returns-in_default-route : goal.returns-in_default-route
 returns-in_default-route g c = record {

@@ -13,7 +13,7 @@ returns-in-Ok-Await-clause-handles g c = λ nothing channel stream first unread 
         last = last;
         discarded = x;
         waits = rw x.at.is_context.head.method at c.requires;
-        asked = begun _ (rw x.route_is at x.at.is_context.query);
+        asked = rw x.at.is_context.head.client at (begun _ (rw x.route_is at x.at.is_context.query));
       },
     ))
 
