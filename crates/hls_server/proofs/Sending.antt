@@ -34,6 +34,7 @@ use Rattle.hls_server.specs.contracts.server.ServerContext as context
 use Rattle.hls_server.specs.contracts.server.WakingGate as gate
 use Rattle.hls_server.specs.contracts.server.ServerJournal as journal
 use Rattle.hls_server.proofs.durability.Durability.TheSendSync as durability
+use Rattle.hls_server.proofs.body_lanes.BodyLanes.TheSendSync as lanes
 
 -- a struct may be sent to another thread if each of its fields may
 declared_send : (T : Declared) → AllSend (declared.fields T) → IsSend (declared.row T)
@@ -103,7 +104,7 @@ context_sync a = declared_sync (context.the_type a) (
         shr_sync _ _ _ (channel_sync a),
         (
           search (sendable, crosses) depth 30,
-          (search (sendable, crosses) depth 30, (shr_sync _ _ _ worker_loads.the_sync, (shr_sync _ _ _ throttle.the_sync, (search (sendable, crosses) depth 30, (shr_sync _ _ _ durability.the_sync, tt))))),
+          (search (sendable, crosses) depth 30, (shr_sync _ _ _ worker_loads.the_sync, (shr_sync _ _ _ throttle.the_sync, (search (sendable, crosses) depth 30, (shr_sync _ _ _ durability.the_sync, (shr_sync _ _ _ lanes.the_sync, tt)))))),
         ),
       ),
     ),

@@ -3,9 +3,8 @@ use Rattle.std.specs.Prelude.{◌≡◌, ◌++◌, ◌||◌, ℕ, List, Option, 
 use Rattle.hls_event_loop.specs.{Traffic.Traffic, declared.handler.ConnectionEnd.ConnectionEnd}
 use Rattle.hls_connection.specs.{declared.connection.Connection.Connection, Connections.history, Connections.channel_of, Connections.IsStatus}
 use Rattle.hls_api.specs.{Acts.{ActsExtend, Knowledge}, ConnectionStates.{Over, Stage}, OtherActors.Others}
-use Rattle.hls_server.specs.{SendGates.{KeepsCovered, holds_back, released}, declared.logged_connection.LoggedConnection.LoggedConnection}
+use Rattle.hls_server.specs.{SendGates.{KeepsCovered, held_stage, holds_back, released}, declared.logged_connection.LoggedConnection.LoggedConnection}
 use Rattle.hls_event_loop.specs.declared.activity.ConnectionStage.{ConnectionStage}
-use Rattle.hls_event_loop.specs.declared.activity.ConnectionStage.TheVariants as stages
 use Rattle.hls_http.specs.declared.end.SessionEnd.TheVariants as ends
 use Rattle.hls_event_loop.specs.declared.handler.ConnectionEnd.TheVariants as own_end
 
@@ -30,9 +29,9 @@ unsent logged = released logged.gate (history logged.connection).pending
 abbrev pub IsHeld : LoggedConnection → Type 0
 IsHeld logged = IsTrue (holds_back logged.gate (history logged.connection).pending)
 
--- a connection whose bytes are held back waits; otherwise its stage is that of its session
+-- a connection that is held is within a body that isn't read, or waits; otherwise its stage is that of its session
 abbrev pub HasStage : LoggedConnection → ConnectionStage → Type 0
-HasStage logged stage = (IsHeld logged → stage ≡ stages.Waiting) × ((IsHeld logged → ⊥) → IsStatus stage logged.connection)
+HasStage logged stage = (IsHeld logged → stage ≡ held_stage logged.gate) × ((IsHeld logged → ⊥) → IsStatus stage logged.connection)
 
 -- how the socket of a connection that is over is closed: after its last reply, further input is dropped for a while
 abbrev pub socket_end : Stage → Option ConnectionEnd

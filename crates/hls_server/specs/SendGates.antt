@@ -1,5 +1,7 @@
 -- Bytes that are held back until the state that they were made of is durable.
 use Rattle.std.specs.Prelude.{◌≡◌, ◌⊎◌, ◌≤◌, ◌-◌, ◌&&◌, ◌||◌, ℕ, Bool, false, List, [], ◌∷◌, length, cond, nat_lt, Option, None}
+use Rattle.hls_event_loop.specs.declared.activity.ConnectionStage.{ConnectionStage}
+use Rattle.hls_event_loop.specs.declared.activity.ConnectionStage.TheVariants as stages
 use Rattle.hls_api.specs.Types.{State}
 use Rattle.hls_server.specs.declared.send_gate.SendGate.{SendGate}
 use Rattle.hls_server.specs.declared.send_gate.NeededPoint.{NeededPoint}
@@ -12,10 +14,18 @@ is_closed gate = nat_lt gate.durable.version gate.needed.version || nat_lt gate.
 abbrev pub is_behind : SendGate → Bool
 is_behind gate = gate.is_receiving && nat_lt 1024 (gate.needed.version - gate.durable.version)
 
--- a connection is held: there are bytes to send and the gate is closed, or there are none and a body isn't read
+-- the journal holds a connection: there are bytes to send and the gate is closed, or there are none and a body isn't read
+abbrev pub is_held_by_journal : SendGate → List ℕ → Bool
+is_held_by_journal gate [] = is_behind gate
+is_held_by_journal gate (byte ∷ bytes) = is_closed gate
+
+-- a connection is held: its encoder's body is paused, or the journal holds it
 abbrev pub holds_back : SendGate → List ℕ → Bool
-holds_back gate [] = is_behind gate
-holds_back gate (byte ∷ bytes) = is_closed gate
+holds_back gate bytes = gate.is_paused || is_held_by_journal gate bytes
+
+-- the stage of a connection that is held: within a body, or with a response that waits
+abbrev pub held_stage : SendGate → ConnectionStage
+held_stage gate = cond (gate.is_paused || gate.is_receiving) stages.Held stages.Waiting
 
 -- the bytes that may be sent
 abbrev pub released : SendGate → List ℕ → List ℕ

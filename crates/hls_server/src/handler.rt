@@ -7,10 +7,11 @@ ghost use Rattle.hls_connection.specs.Histories.{new_history};
 ghost use Rattle.hls_connection.specs.Connections.{IsBetweenParts, IsStatus, IsIdleOrBlocked, KeeperSuits, Waits, WantsRead, history, stage, steps_left};
 ghost use Rattle.hls_server.specs.{HistoryGrowth.{serves_on, serves_nothing}, HandlerConnections.{HasStage, IsHeld, ServesHeld, socket_end, unsent}, SendGates.{Covers, unless_held}};
 
+use crate::body_lanes::{BodyLanes, BodyShare, BodyTurn};
 use crate::durability::Durability;
 use crate::log_lines::refusal_name;
 use crate::logged_connection::{AccessRecord, LoggedConnection};
-use crate::observer::{ClientObserver, log_slow_response};
+use crate::observer::{ClientObserver, log_slow_response, log_slowed_body};
 use crate::request_counts::kind_of_request;
 use crate::send_gate::{NeededPoint, SendGate};
 use hls_api::ingest::IngestStop;
@@ -21,7 +22,7 @@ use hls_connection::events::IngestReport;
 use hls_connection::laws::suits_is_stable;
 use hls_core::StreamFault;
 use hls_event_loop::{ConnectionEnd, ConnectionStage, Handler, WorkerLoads};
-use hls_housekeeper::{LogThrottle, log_failed_accept, may_log};
+use hls_housekeeper::{DisplayName, LogThrottle, log_failed_accept, may_log};
 use hls_http::response_parts::{Status, out_of_memory_text};
 use hls_http::{Method, SessionEnd};
 use hls_metrics::measurements::{add, subtract};
@@ -46,6 +47,8 @@ pub struct ServerHandler<'a, R: Wait> {
     pub handle: ChannelHandle<'a, R>,
     /// How far the channel's journal is durable.
     pub durability: &'a Durability,
+    /// Where encoders' bodies are slowed down.
+    pub lanes: &'a BodyLanes,
     /// The names of the renditions, and whether each request is logged.
     pub settings: &'a Settings,
     pub throttle: &'a LogThrottle,
@@ -127,6 +130,7 @@ impl<'a, R: Wait> ServerHandler<'a, R> {
             needed: NeededPoint::of_handle(&self.handle, self.durability, is_exempt),
             durable: self.durability.read(),
             is_receiving,
+            is_paused: false,
         };
         if gate.is_closed() {
             self.durability.call(self.rt);
@@ -177,6 +181,58 @@ impl<'a, R: Wait> ServerHandler<'a, R> {
         if let Some(report) = after {
             self.note_ingested(report, heard, now_ms);
             self.count_repairs(earlier, report);
+        }
+    }
+
+    /// Takes what a turn received of encoders' bodies: of the body that was received before, and of one that is received now.
+    fn take_bodies(
+        &self,
+        share: &mut BodyShare,
+        before: Option<IngestReport>,
+        client: &ClientObserver<'a, R>,
+        after: Option<IngestReport>,
+        now_ms: u64,
+    ) {
+        let mut earlier = before.map_or(0, count_parts);
+        if let Some(ended) = client.ingested.get() {
+            self.take_body(share, ended, earlier, false, now_ms);
+            earlier = 0;
+        }
+        if let Some(report) = after {
+            self.take_body(share, report, earlier, true, now_ms);
+        }
+        share.forget_received();
+    }
+
+    /// Takes what a turn received of a body that had some parts before. A body that waits for the place that it leaves is woken.
+    fn take_body(
+        &self,
+        share: &mut BodyShare,
+        report: IngestReport,
+        earlier: u64,
+        is_open: bool,
+        now_ms: u64,
+    ) {
+        let turn = BodyTurn {
+            rendition: report.rendition,
+            parts: count_parts(report).saturating_sub(earlier),
+            is_open,
+            now_ms,
+        };
+        if self.lanes.take_turn(self.rt, share, turn) {
+            self.worker_loads.wake_waiting();
+        }
+    }
+
+    /// Whether a connection's body isn't read at this moment.
+    fn is_paused(&self, share: &mut BodyShare, now_ms: u64) -> bool {
+        self.lanes.is_paused(self.rt, share, now_ms)
+    }
+
+    /// Frees the place of a connection that is given up.
+    fn leave_place(&self, share: &BodyShare, now_ms: u64) {
+        if self.lanes.leave(self.rt, share, now_ms) {
+            self.worker_loads.wake_waiting();
         }
     }
 
@@ -250,6 +306,14 @@ fn count_heard(report: IngestReport) -> u64 {
         .saturating_add(counts.dropped)
 }
 
+/// Returns how many parts of a body were handled, whatever became of them.
+fn count_parts(report: IngestReport) -> u64 {
+    let counts = report.counts;
+    count_heard(report)
+        .saturating_add(counts.inits)
+        .saturating_add(counts.repeats)
+}
+
 impl<'a, R: Wait + Clock + Eprint> ServerHandler<'a, R> {
     /// Logs a response that took long to make.
     fn log_slow(&self, client: &ClientObserver<'a, R>, started_ms: u64) {
@@ -261,6 +325,19 @@ impl<'a, R: Wait + Clock + Eprint> ServerHandler<'a, R> {
         let passed = now.saturating_sub(started_ms);
         if passed >= SLOW_MS && may_log(&self.throttle.slow_response, now) {
             log_slow_response(rt, passed, access_line);
+        }
+    }
+
+    /// Logs that a body isn't read for a while, if it is paused.
+    fn log_slowed(&self, is_paused: bool, share: &BodyShare, now_ms: u64) {
+        if !is_paused {
+            return;
+        }
+        let renditions = self.settings.config.renditions();
+        if let Some(rendition) = renditions.get(share.rendition())
+            && may_log(&self.throttle.slowed_body, now_ms)
+        {
+            log_slowed_body(self.rt, DisplayName(&rendition.name));
         }
     }
 
@@ -339,6 +416,7 @@ impl<'a, R: Wait + Clock + Eprint> Handler for ServerHandler<'a, R> {
             ),
             access: None,
             gate: SendGate::new(self.durability.read()),
+            share: BodyShare::new(),
         }
     }
 
@@ -346,6 +424,7 @@ impl<'a, R: Wait + Clock + Eprint> Handler for ServerHandler<'a, R> {
         suits_is_stable();
         if logged.is_held() {
             logged.gate.durable = self.durability.read();
+            logged.gate.is_paused = self.is_paused(&mut logged.share, monotonic_ms(self.rt));
             if logged.is_held() {
                 return false;
             }
@@ -363,6 +442,9 @@ impl<'a, R: Wait + Clock + Eprint> Handler for ServerHandler<'a, R> {
         let more = logged.connection.advance(&mut self.handle, now, &client);
         let after = logged.connection.ingest_progress();
         self.set_gate(&mut logged.gate, is_exempt(&client), after.is_some());
+        self.take_bodies(&mut logged.share, before, &client, after, started_ms);
+        logged.gate.is_paused = self.is_paused(&mut logged.share, started_ms);
+        self.log_slowed(logged.gate.is_paused, &logged.share, started_ms);
         self.count_waiting(waited, logged.connection.is_waiting());
         self.note_units(before, &client, after, started_ms);
         self.count_request(&client);
@@ -375,6 +457,7 @@ impl<'a, R: Wait + Clock + Eprint> Handler for ServerHandler<'a, R> {
     fn read<S: Read>(&self, logged: &mut LoggedConnection, reader: &mut S) -> io::Result<usize> {
         let read = logged.connection.read_from(reader);
         self.count_received(&read);
+        logged.share.count_read(&read);
         read
     }
 
@@ -418,7 +501,7 @@ impl<'a, R: Wait + Clock + Eprint> Handler for ServerHandler<'a, R> {
 
     fn stage(&self, logged: &LoggedConnection) -> ConnectionStage {
         if logged.is_held() {
-            return ConnectionStage::Waiting;
+            return logged.gate.held_stage();
         }
         logged.connection.status()
     }
@@ -433,6 +516,7 @@ impl<'a, R: Wait + Clock + Eprint> Handler for ServerHandler<'a, R> {
 
     fn abandon(&self, logged: &LoggedConnection, peer: SocketAddr) {
         self.count_waiting(logged.connection.is_waiting(), false);
+        self.leave_place(&logged.share, monotonic_ms(self.rt));
         logged.connection.report_read_failure(&self.observer(peer));
         if let Some(access) = &logged.access {
             access.log(self.rt, monotonic_ms(self.rt), false);

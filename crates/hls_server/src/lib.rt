@@ -5,6 +5,7 @@
 //! time.
 #![tactic(auto)]
 
+mod body_lanes;
 mod durability;
 mod follower;
 mod handler;

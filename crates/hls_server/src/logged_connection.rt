@@ -4,6 +4,7 @@ ghost use Rattle.std.specs.Prelude.{◌≡◌};
 ghost use Rattle.hls_connection.specs.Connections.{history};
 ghost use Rattle.hls_server.specs.SendGates.{holds_back};
 
+use crate::body_lanes::BodyShare;
 use crate::log_lines::AccessLine;
 use crate::send_gate::SendGate;
 use hls_connection::connection::Connection;
@@ -25,6 +26,8 @@ pub struct LoggedConnection {
     pub connection: Connection,
     pub access: Option<Box<AccessRecord>>,
     pub gate: SendGate,
+    /// Its share of a rendition's lane.
+    pub share: BodyShare,
 }
 
 impl LoggedConnection {
@@ -32,6 +35,9 @@ impl LoggedConnection {
     pub fn is_held(&self) -> bool
         ensures { result ≡ holds_back self.now.gate (history self.now.connection).pending }
     {
+        if self.gate.is_paused {
+            return true;
+        }
         if self.connection.wants_write() {
             self.gate.is_closed()
         } else {

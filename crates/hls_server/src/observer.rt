@@ -18,6 +18,13 @@ pub fn log_slow_response<E: Eprint>(rt: &E, milliseconds: u64, access_line: Acce
     let _ = eprintln!(rt; "serve: a response took {milliseconds} ms to make: {method} {path}");
 }
 
+/// Logs that the bodies of a rendition are read more slowly than they arrive; once a minute at most.
+pub fn log_slowed_body<E: Eprint>(rt: &E, name: DisplayName<'_>) {
+    let _ = eprintln!(rt;
+        "serve: {name} is read more slowly than it arrives: too many fragments or bytes for its --unit-rate and bandwidth, or several long fragments at once"
+    );
+}
+
 /// The observer of a connection for one turn: it logs an encoder's body that ended, and notes what became of a request.
 #[derive(Drop)]
 pub struct ClientObserver<'a, E> {

@@ -1,10 +1,11 @@
 //! What holds the bytes of a connection back until their state is durable.
 
-ghost use Rattle.std.specs.Prelude.{◌≡◌, IsFalse};
-ghost use Rattle.hls_server.specs.SendGates.{Covers, is_behind, is_closed};
+ghost use Rattle.std.specs.Prelude.{◌≡◌, ◌⊎◌, IsFalse};
+ghost use Rattle.hls_server.specs.SendGates.{Covers, held_stage, is_behind, is_closed};
 
 use crate::durability::{Durability, DurablePoint};
 use hls_connection::channel_handle::ChannelHandle;
+use hls_event_loop::ConnectionStage;
 use std::sync::Wait;
 
 /// How far a journal must be durable before bytes are sent.
@@ -60,6 +61,8 @@ pub struct SendGate {
     pub durable: DurablePoint,
     /// Whether an encoder's body is received.
     pub is_receiving: bool,
+    /// Whether nothing is sent or read for a while, since an encoder's body is above its rates or waits for a place.
+    pub is_paused: bool,
 }
 
 impl SendGate {
@@ -73,6 +76,7 @@ impl SendGate {
             },
             durable,
             is_receiving: false,
+            is_paused: false,
         }
     }
 
@@ -88,5 +92,17 @@ impl SendGate {
         ensures { result ≡ is_behind self.now }
     {
         self.is_receiving && MOST_LAG < self.needed.version.saturating_sub(self.durable.version)
+    }
+
+    /// The stage of a connection that is held: within a body, or with a response that waits.
+    pub fn held_stage(&self) -> ConnectionStage
+        ensures stage { result ≡ held_stage self.now }
+        ensures waits { (result ≡ ConnectionStage.Waiting) ⊎ (result ≡ ConnectionStage.Held) }
+    {
+        if self.is_paused || self.is_receiving {
+            ConnectionStage::Held
+        } else {
+            ConnectionStage::Waiting
+        }
     }
 }

@@ -2,6 +2,7 @@
 
 ghost use Rattle.std.specs.Prelude.{◌≡◌, ◌+◌, ◌≤◌, All, IsFalse, IsTrue, max, min};
 
+use crate::body_lanes::BodyLanes;
 use crate::durability::Durability;
 use crate::follower::{FollowerContext, StateFollower, run_follower};
 use crate::handler::ServerHandler;
@@ -88,6 +89,8 @@ struct ServerContext<'a> {
     closed: &'a AtomicBool,
     /// How far the journal is durable.
     durability: &'a Durability,
+    /// Where encoders' bodies are slowed down.
+    lanes: &'a BodyLanes,
 }
 
 /// Wakes responses that wait for a job or a plan whenever one ends, and counts plans. Once the workers are to end, no further job runs.
@@ -128,6 +131,10 @@ impl<'a> ServerStatus for ServerContext<'a> {
 
     fn measurements(&self) -> &Measurements {
         self.channel.measurements
+    }
+
+    fn note_kept(&self, rendition: usize, bytes: u64) {
+        self.lanes.note_kept(rendition, bytes);
     }
 
     fn connection_count(&self) -> u64 {
@@ -208,6 +215,7 @@ where
     let limits = find_limits(settings.server.workers);
     let worker_loads = make_loads(alloc, limits, connections)?;
     let signs = EncoderSigns::new();
+    let lanes = BodyLanes::new(alloc, settings)?;
     let channel = SharedChannel {
         turn: &turn,
         jobs: &jobs,
@@ -228,6 +236,7 @@ where
         throttle: &throttle,
         closed: &closed,
         durability: &durability,
+        lanes: &lanes,
     };
     run_listening(rt, &context, passes, journal)
 }
@@ -296,6 +305,7 @@ fn run_worker_thread<R: Wait + Clock + Eprint>(
         alloc: context.alloc,
         handle: ChannelHandle::new(rt, context.alloc, context.channel, pass),
         durability: context.durability,
+        lanes: context.lanes,
         settings: context.settings,
         throttle: context.throttle,
         worker_loads: context.worker_loads,
