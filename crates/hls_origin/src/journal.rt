@@ -23,43 +23,74 @@ fn field_name(field: ConfigField) -> &'static str {
 #[derive(Drop)]
 pub struct FolderFault<'a>(pub &'a OpenFault);
 
-fn write_channel_fault<W: Write>(f: &mut Formatter<W>, fault: &JournalFault) -> fmt::Result {
-    match fault {
-        JournalFault::Memory => f.write_str("Memory"),
-        JournalFault::NoChannel => f.write_str("NoChannel: it has no channel"),
-        JournalFault::UnknownVersion { version } => {
-            write!(f, "UnknownVersion: its format has version {version}")
+impl<'a> FolderFault<'a> {
+    /// Returns the fault's name, or the part of the folder on which a call failed.
+    pub fn name(&self) -> &'static str {
+        match self.0 {
+            OpenFault::Memory => "Memory",
+            OpenFault::Busy => "Busy",
+            OpenFault::Marked => "Marked",
+            OpenFault::Damaged { .. } => "JournalDamaged",
+            OpenFault::Channel(fault) => ChannelFault(fault).name(),
+            OpenFault::Stale { .. } => "JournalStale",
+            OpenFault::Disk { part, .. } => part.text(),
         }
+    }
+}
+
+/// The fault of a channel's records, as a line.
+#[derive(Drop)]
+struct ChannelFault<'a>(&'a JournalFault);
+
+impl<'a> ChannelFault<'a> {
+    fn name(&self) -> &'static str {
+        match self.0 {
+            JournalFault::Memory => "Memory",
+            JournalFault::NoChannel => "NoChannel",
+            JournalFault::UnknownVersion { .. } => "UnknownVersion",
+            JournalFault::JournalOther { .. } => "JournalOther",
+            JournalFault::WrongRecord { .. } => "WrongRecord",
+            JournalFault::MissingUnit { .. } => "MissingUnit",
+        }
+    }
+}
+
+fn write_channel_details<W: Write>(f: &mut Formatter<W>, fault: &JournalFault) -> fmt::Result {
+    match fault {
+        JournalFault::Memory => Ok(()),
+        JournalFault::NoChannel => f.write_str(": it has no channel"),
+        JournalFault::UnknownVersion { version } => write!(f, ": its format has version {version}"),
         JournalFault::JournalOther {
             field,
             journal,
             given,
-        } if journal == given => write!(f, "JournalOther: other {}", field_name(*field)),
+        } if journal == given => write!(f, ": other {}", field_name(*field)),
         JournalFault::JournalOther {
             field,
             journal,
             given,
-        } => write!(
-            f,
-            "JournalOther: {} {journal}, not {given}",
-            field_name(*field)
-        ),
-        JournalFault::WrongRecord { record } => write!(f, "WrongRecord at record {record}"),
-        JournalFault::MissingUnit { record } => write!(f, "MissingUnit at record {record}"),
+        } => write!(f, ": {} {journal}, not {given}", field_name(*field)),
+        JournalFault::WrongRecord { record } => write!(f, " at record {record}"),
+        JournalFault::MissingUnit { record } => write!(f, " at record {record}"),
     }
 }
 
 impl<'a> Display for FolderFault<'a> {
     fn fmt<W: Write>(&self, f: &mut Formatter<W>) -> fmt::Result {
+        f.write_str(self.name())?;
         match self.0 {
-            OpenFault::Memory => f.write_str("Memory"),
-            OpenFault::Busy => f.write_str("Busy: another process has it"),
+            OpenFault::Memory => Ok(()),
+            OpenFault::Busy => f.write_str(": another process has it"),
             OpenFault::Marked => f.write_str(
-                "Marked: players have seen more than it has; remove it for a new channel",
+                ": players have seen more than it has; serve --anew begins an empty channel",
             ),
-            OpenFault::Damaged { at } => write!(f, "JournalDamaged at byte {at}"),
-            OpenFault::Channel(fault) => write_channel_fault(f, fault),
-            OpenFault::Disk { part, error } => write!(f, "{part}: {error}"),
+            OpenFault::Damaged { at } => write!(f, " at byte {at}"),
+            OpenFault::Channel(fault) => write_channel_details(f, fault),
+            OpenFault::Stale { next, served } => write!(
+                f,
+                ": its next segment is {next}, and players have seen those below {served}"
+            ),
+            OpenFault::Disk { error, .. } => write!(f, ": {error}"),
         }
     }
 }

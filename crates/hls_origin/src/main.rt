@@ -23,7 +23,8 @@
 //! fault, and 1 if it can't listen on the address or is out of memory.
 //!
 //! `hls_origin journal FOLDER` reports what the folder of a journal holds, and changes nothing; `hls_origin journal --close FOLDER` syncs
-//! and closes it. The exit status is 1 if a start doesn't restore it, or if it can't be closed, and 2 for a usage fault.
+//! and closes it; `hls_origin journal --check [OPTIONS] ADDRESS SPEC..` writes whether `serve` with these arguments would continue its journal,
+//! and changes nothing. The exit status is 1 if a start doesn't restore it, or if it can't be closed, and 2 for a usage fault.
 //!
 //! `hls_origin help`, `--help` and `-h`, alone or after a command, print the usage, and `--version` the version.
 #![tactic(auto)]
@@ -37,6 +38,7 @@ mod serve;
 mod version;
 
 use crate::journal::{run_close, run_report};
+use crate::serve::check_journal::run_check_journal;
 use crate::serve::run::{ServeEnd, run_serve};
 use crate::version::{TOOLCHAIN, VERSION};
 use hls_commands::{
@@ -45,7 +47,10 @@ use hls_commands::{
 };
 use hls_housekeeper::{settings_needs, write_needs};
 use hls_io::{Counted, write_whole};
-use hls_settings::{PrintableArgument, Settings, SettingsFault, SettingsMessage, read_settings};
+use hls_settings::{
+    PrintableArgument, Settings, SettingsFault, SettingsMessage, find_journal_argument,
+    read_settings,
+};
 use std::fs::File;
 use std::io::{Eprint, ErrorKind};
 use std::net::{Net, TcpListener, TcpStream};
@@ -65,6 +70,7 @@ const USAGE: &str =
        hls_origin serve [OPTIONS] ADDRESS SPEC..
        hls_origin size [OPTIONS] ADDRESS SPEC..
        hls_origin journal [--close] FOLDER
+       hls_origin journal --check [OPTIONS] ADDRESS SPEC..
        hls_origin --help | --version
 ";
 
@@ -93,7 +99,8 @@ serve: a live channel over HTTP; encoders PUT to /ingest/0, /ingest/1, .. and pl
        kind is video or audio, bandwidth is in bits a second and tolerance in microseconds
   --target N     the longest segment in whole seconds, 1 to 3600; 6 if not given
   --preferred N  the length in microseconds at which a segment ends, 1 to the target; 4000000
-  --window N     what live lists hold in microseconds, three targets or more; 30000000
+  --window N     what live lists hold in microseconds, three targets or more; 30000000, with --live the
+                 same as --keep
   --keep N       what is kept for catch-up in microseconds, the window or more; 3600000000
   --live N       what /hls/R.m3u8 shows in microseconds, three targets to the window; the window
   --epoch TEXT   the instant of time 0 of the encoders' clock, 1970 to 9000, as in
@@ -122,9 +129,13 @@ serve: a live channel over HTTP; encoders PUT to /ingest/0, /ingest/1, .. and pl
                  the others, and these may jump without it, 1 to 3600; 5
   --job-life N   after how many seconds without a request a finished job is removed, 1 to 86400; not at all
                  if not given
+  --unit-rate N  how many fragments a second a rendition may get on average over ten seconds, 0 to 1000000; 500.
+                 Above it, and above four times its bandwidth over a minute, its bodies are read more slowly.
+                 0: no limits
 size: how much memory serve with these arguments needs, in MiB, and the limits of its service
 journal: what the folder of a journal holds, and whether a start restores it; --close syncs a folder whose
-       server has ended
+       server has ended; --check, with the arguments of serve, writes how much of the channel serve would
+       continue, or why it would refuse the journal, and changes nothing
 Each option may be given once, after its command; --each excludes --preferred and --certificate. check and
 lint take no arguments.
 
@@ -329,6 +340,19 @@ fn print_no_folder(rt: &HostRuntime) -> ExitCode
     ExitCode::from(2)
 }
 
+/// Runs `journal --check`, with the arguments of `serve`.
+fn run_check_journal_command(
+    rt: &HostRuntime,
+    threads: &(impl Files<File = File> + Threads + Sync),
+    arguments: &[String],
+) -> ExitCode {
+    end_serve(
+        rt,
+        arguments,
+        run_check_journal(threads, rt, rt.alloc(), arguments),
+    )
+}
+
 /// Runs `journal`, which takes a folder, or `--close` and a folder.
 fn run_journal_command(rt: &HostRuntime, arguments: &[String]) -> ExitCode {
     let (closes, words) = match arguments {
@@ -403,9 +427,9 @@ fn print_size_fault(rt: &HostRuntime, arguments: &[String], fault: SettingsFault
     ExitCode::from(2)
 }
 
-/// Prints what the settings need.
-fn print_needs(rt: &HostRuntime, settings: &Settings) -> ExitCode {
-    let Some(needs) = settings_needs(settings) else {
+/// Prints what the settings need, with or without a journal.
+fn print_needs(rt: &HostRuntime, settings: &Settings, has_journal: bool) -> ExitCode {
+    let Some(needs) = settings_needs(settings, has_journal) else {
         return ExitCode::from(1);
     };
     let Ok(text) = write_needs(rt.alloc(), &needs) else {
@@ -423,7 +447,7 @@ fn print_needs(rt: &HostRuntime, settings: &Settings) -> ExitCode {
 /// Runs `size`, with the arguments of `serve`.
 fn run_size_command(rt: &HostRuntime, arguments: &[String]) -> ExitCode {
     match read_settings(rt.alloc(), arguments) {
-        Ok(settings) => print_needs(rt, &settings),
+        Ok(settings) => print_needs(rt, &settings, find_journal_argument(arguments).is_some()),
         Err(SettingsFault::Memory) => {
             let _ = eprintln!(rt; "size: Memory");
             ExitCode::from(1)
@@ -466,7 +490,12 @@ where
         "explain" => run_explain_command(rt, rest),
         "size" => run_size_command(rt, rest),
         "serve" => end_serve(rt, rest, run_serve(threads, rt, rt.alloc(), rest)),
-        "journal" => run_journal_command(rt, rest),
+        "journal" => match rest {
+            [option, given @ ..] if option.as_str() == "--check" => {
+                run_check_journal_command(rt, threads, given)
+            }
+            _ => run_journal_command(rt, rest),
+        },
         "--version" if rest.is_empty() => print_version(rt),
         "help" | "--help" | "-h" | "--version" => print_usage_fault(rt, rest),
         _ => print_usage_fault(rt, arguments),

@@ -1,5 +1,6 @@
 //! The command `serve`: a live channel over HTTP.
 
+pub mod check_journal;
 mod generate_run;
 pub mod journal_follower;
 pub mod load_base;

@@ -3,7 +3,7 @@
 use crate::serve::renew_log::LastState;
 use hls_core::snapshot::Snapshot;
 use hls_housekeeper::{OperatorLog, may_log};
-use hls_journal_store::{StoreFault, StoreFollower, is_renewal_due};
+use hls_journal_store::{RenewalGate, StoreFault, StoreFollower, is_renewal_due};
 use hls_server::{FollowFault, StateFollower};
 use hls_time::monotonic_ms;
 use std::alloc::Global;
@@ -24,8 +24,8 @@ pub struct JournalFollower<'a, T> {
     pub refuses_if_lost: bool,
     /// The first id of a job of this server.
     pub first_job: u64,
-    /// The length of the log from which on it is replaced.
-    pub renew_from: u64,
+    /// From when on the log is replaced.
+    pub renewal: RenewalGate,
     /// Whether the server is to end, so that the log is replaced.
     pub is_ending: bool,
     /// Whether the journal is lost.
@@ -96,7 +96,10 @@ impl<'a, T: Threads> StateFollower for JournalFollower<'a, T> {
 
     fn wants_end(&mut self, snapshot: &Snapshot) -> bool {
         self.is_ending = self.is_ending
-            || (snapshot.version() >= self.renew_from && is_renewal_due(snapshot));
+            || (self
+                .renewal
+                .is_open(snapshot.version(), monotonic_ms(self.host))
+                && is_renewal_due(snapshot));
         self.is_ending
     }
 

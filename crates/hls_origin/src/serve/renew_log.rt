@@ -3,7 +3,8 @@
 use crate::serve::journal_follower::log_fault;
 use hls_core::snapshot::Snapshot;
 use hls_housekeeper::OperatorLog;
-use hls_journal_store::{StoreFollower, renew_channel, renew_store};
+use hls_journal_store::{RenewalGate, StoreFollower, renew_channel, renew_store};
+use hls_time::monotonic_ms;
 use std::alloc::Global;
 use std::sync::Arc;
 use std::sync::atomic::AtomicU64;
@@ -11,6 +12,10 @@ use std::thread::Threads;
 
 /// How many entries the log grows by at least between two renewals, or after one that failed.
 const RETRY_ENTRIES: u64 = 16384;
+
+/// How many milliseconds pass at least between two renewals, or after one that failed: each takes a second or more, in which nobody is
+/// served.
+const RETRY_MS: u64 = 600_000;
 
 /// The ids of jobs that a server may give out, if the channel's log isn't replaced after it.
 const SERVER_IDS: u64 = 16777216;
@@ -22,10 +27,18 @@ pub struct NextStart {
     pub snapshot: Arc<Snapshot>,
     /// The first id of a job that no server has given out.
     pub first_job: u64,
-    /// The length of the log from which on it is replaced.
-    pub renew_from: u64,
+    /// From when on its log is replaced.
+    pub renewal: RenewalGate,
     /// Whether the journal is lost.
     pub is_lost: bool,
+}
+
+/// From when on the log of a channel with this number of entries may be replaced again.
+fn next_renewal(host: &HostRuntime, entries: u64) -> RenewalGate {
+    RenewalGate {
+        entries: entries.saturating_add(RETRY_ENTRIES),
+        at_ms: monotonic_ms(host).saturating_add(RETRY_MS),
+    }
 }
 
 /// The last state of a channel whose server has ended so that the log is replaced.
@@ -62,7 +75,7 @@ impl LastState {
         log_renewal(host, entries, left);
         match renewed {
             Some(next) => next,
-            None => self.continue_log(),
+            None => self.continue_log(host),
         }
     }
 
@@ -77,7 +90,7 @@ impl LastState {
         let renewed = renew_channel(alloc, &self.snapshot).ok()?;
         match renew_store(host, threads, alloc, follower, &renewed) {
             Ok(first_job) => Some(NextStart {
-                renew_from: renewed.version().saturating_add(RETRY_ENTRIES),
+                renewal: next_renewal(host, renewed.version()),
                 snapshot: renewed,
                 first_job,
                 is_lost: false,
@@ -90,12 +103,11 @@ impl LastState {
     }
 
     /// What the next server starts with if the log isn't replaced.
-    pub fn continue_log(self) -> NextStart {
-        let renew_from = self.snapshot.version().saturating_add(RETRY_ENTRIES);
+    pub fn continue_log(self, host: &HostRuntime) -> NextStart {
         NextStart {
+            renewal: next_renewal(host, self.snapshot.version()),
             snapshot: self.snapshot,
             first_job: self.first_job.saturating_add(SERVER_IDS),
-            renew_from,
             is_lost: self.is_lost,
         }
     }

@@ -1,6 +1,7 @@
 //! `serve`, from its arguments to its end.
-ghost use Rattle.std.specs.Prelude.{map};
-ghost use Rattle.hls_origin.specs.ServeRun.{EndsServe, IsServed};
+ghost use Rattle.std.specs.Prelude.{◌≡◌, map, IfOk, IfErr, Ok};
+ghost use Rattle.hls_settings.specs.JournalSettings.{journal_settings_of};
+ghost use Rattle.hls_origin.specs.ServeRun.{AreSettings, EndsServe, IsServed};
 
 use crate::serve::generate_run::generate_run;
 use crate::serve::journal_follower::JournalFollower;
@@ -10,6 +11,7 @@ use crate::serve::renew_log::{LastState, NextStart};
 use hls_core::base::Base;
 use hls_core::snapshot::Snapshot;
 use hls_housekeeper::{OperatorLog, log_listening};
+use hls_journal_store::RenewalGate;
 use hls_server::{ServerJournal, ServerStart, log_start, run_server};
 use hls_settings::{
     JournalSettings, JournalSettingsFault, ListenAddress, Settings, SettingsFault,
@@ -156,7 +158,10 @@ where
     let mut channel = ServerChannel {
         snapshot,
         first_job,
-        renew_from: 0,
+        renewal: RenewalGate {
+            entries: 0,
+            at_ms: 0,
+        },
         is_lost: false,
     };
     for _ in rt.forever() {
@@ -187,7 +192,7 @@ fn continue_channel<T: Threads + Sync>(
 ) -> NextStart {
     match journal {
         Some(journal) => last.renew_log(threads, host, alloc, &mut journal.follower),
-        None => last.continue_log(),
+        None => last.continue_log(host),
     }
 }
 
@@ -197,8 +202,8 @@ struct ServerChannel {
     snapshot: Snapshot,
     /// The first id of a job.
     first_job: u64,
-    /// The length of the log from which on it is replaced.
-    renew_from: u64,
+    /// From when on the log is replaced.
+    renewal: RenewalGate,
     /// Whether its journal is lost. The folder stays locked.
     is_lost: bool,
 }
@@ -210,7 +215,7 @@ impl ServerChannel {
             Ok(snapshot) => Some(ServerChannel {
                 snapshot,
                 first_job: next.first_job,
-                renew_from: next.renew_from,
+                renewal: next.renewal,
                 is_lost: next.is_lost,
             }),
             Err(_) => None,
@@ -223,7 +228,7 @@ fn server_journal<'a, T: Threads + Sync>(
     threads: &'a T,
     host: &'a HostRuntime,
     alloc: Global,
-    (first_job, renew_from): (u64, u64),
+    (first_job, renewal): (u64, RenewalGate),
     journal: &'a mut ChannelJournal,
     next: &'a mut Option<LastState>,
 ) -> ServerJournal<JournalFollower<'a, T>> {
@@ -236,7 +241,7 @@ fn server_journal<'a, T: Threads + Sync>(
         follower: &mut journal.follower,
         refuses_if_lost,
         first_job,
-        renew_from,
+        renewal,
         is_ending: false,
         is_lost: false,
         next,
@@ -261,7 +266,7 @@ fn start_server<'a, T: Threads + Sync>(
     let ServerChannel {
         snapshot,
         first_job,
-        renew_from,
+        renewal,
         is_lost,
     } = channel;
     let (refuses_encoders, followed) = match journal {
@@ -269,7 +274,7 @@ fn start_server<'a, T: Threads + Sync>(
         Some(journal) if is_lost => (journal.refuses_if_lost, None),
         Some(journal) => (
             false,
-            Some(server_journal(threads, host, alloc, (first_job, renew_from), journal, next)),
+            Some(server_journal(threads, host, alloc, (first_job, renewal), journal, next)),
         ),
     };
     ServerStart {
@@ -309,6 +314,49 @@ where
     serve_logs(rt, host, alloc, settings, &listener, start)
 }
 
+/// The arguments of `serve`.
+#[derive(Drop)]
+pub struct ServeArguments<'a> {
+    /// With the base that the channel has if it is new.
+    pub settings: Settings,
+    pub journal: JournalSettings,
+    /// The folder of the journal.
+    pub folder: Option<&'a str>,
+}
+
+/// Reads the arguments of `serve`. Returns how it ends if one is invalid.
+pub fn read_serve_arguments<'a, S: AsStr>(
+    host: &HostRuntime,
+    alloc: Global,
+    arguments: &'a [S],
+) -> Result<ServeArguments<'a>, ServeEnd>
+    ensures settings { IfOk result (λ given. AreSettings (map S.text arguments.entry.now)) }
+    ensures journal { IfOk result (λ given. journal_settings_of (map S.text arguments.entry.now) ≡ Ok given.journal) }
+    ensures fault { IfErr result (EndsServe (map S.text arguments.entry.now)) }
+{
+    let settings = match read_settings(alloc, arguments) {
+        Ok(settings) => settings,
+        Err(SettingsFault::Memory) => return Err(ServeEnd::Memory),
+        Err(fault) => return Err(ServeEnd::Usage(fault)),
+    };
+    let journal = match read_journal_settings(arguments) {
+        Ok(journal) => journal,
+        Err(fault) => return Err(ServeEnd::Journal(fault)),
+    };
+    let folder = find_journal_argument(arguments);
+    if folder == Some("") {
+        return Err(ServeEnd::NoFolder);
+    }
+    match with_base(host, settings, find_base_argument(arguments)) {
+        Ok(settings) => Ok(ServeArguments {
+            settings,
+            journal,
+            folder,
+        }),
+        Err(fault) => Err(ServeEnd::Base(fault)),
+    }
+}
+
 /// Reads the arguments, opens the journal if there is one, listens, and serves; files are the host's. Logs to standard error where it
 /// listens, what was restored, and the result of each encoder's body.
 pub fn run_serve<'a, S: AsStr, R>(
@@ -328,22 +376,13 @@ where
         + Sync,
     ensures { EndsServe (map S.text arguments.entry.now) result }
 {
-    let settings = match read_settings(alloc, arguments) {
-        Ok(settings) => settings,
-        Err(SettingsFault::Memory) => return ServeEnd::Memory,
-        Err(fault) => return ServeEnd::Usage(fault),
-    };
-    let journal = match read_journal_settings(arguments) {
-        Ok(journal) => journal,
-        Err(fault) => return ServeEnd::Journal(fault),
-    };
-    let folder = find_journal_argument(arguments);
-    if folder == Some("") {
-        return ServeEnd::NoFolder;
-    }
-    let settings = match with_base(host, settings, find_base_argument(arguments)) {
-        Ok(settings) => settings,
-        Err(fault) => return ServeEnd::Base(fault),
+    let ServeArguments {
+        settings,
+        journal,
+        folder,
+    } = match read_serve_arguments(host, alloc, arguments) {
+        Ok(given) => given,
+        Err(end) => return end,
     };
     match start_channel(rt, host, alloc, &settings, folder, journal) {
         Ok(start) => serve_channel(rt, host, alloc, &settings, start),
