@@ -4,6 +4,7 @@ use hls_fakes::init_bytes;
 use hls_media::read_init;
 use hls_media_laws::init::Init;
 use hls_mend::{hold_unit, retime_unit, silent_unit};
+use hls_mend_laws::filler::{FillerSpan, FrameLength};
 use std::alloc::Global;
 use std::test::Fail;
 
@@ -36,16 +37,30 @@ fn retime_with_retry(alloc: Global, init: &Init) -> Result<Option<Vec<u8>>, Fail
 }
 
 fn hold_with_retry(alloc: Global, init: &Init) -> Result<Option<Vec<u8>>, Fail> {
-    match hold_unit(alloc, init, &SENT, 30000, 512) {
+    let span = FillerSpan {
+        start: 30000,
+        ticks: 512,
+        most: 1000,
+    };
+    match hold_unit(alloc, init, &SENT, span) {
         Ok(made) => Ok(made),
-        Err(_) => Ok(hold_unit(alloc, init, &SENT, 30000, 512)?),
+        Err(_) => Ok(hold_unit(alloc, init, &SENT, span)?),
     }
 }
 
 fn silence_with_retry(alloc: Global, init: &Init) -> Result<Option<Vec<u8>>, Fail> {
-    match silent_unit(alloc, init, &SENT, &[8, 9], 30000, 2000) {
+    let span = FillerSpan {
+        start: 30000,
+        ticks: 2000,
+        most: 1000,
+    };
+    let length = FrameLength {
+        ticks: 512 * 48000,
+        rate: 48000,
+    };
+    match silent_unit(alloc, init, &SENT, length, Some(&[8, 9]), span) {
         Ok(made) => Ok(made),
-        Err(_) => Ok(silent_unit(alloc, init, &SENT, &[8, 9], 30000, 2000)?),
+        Err(_) => Ok(silent_unit(alloc, init, &SENT, length, Some(&[8, 9]), span)?),
     }
 }
 
