@@ -1,28 +1,31 @@
 """The edge's files for nginx: the file of channels, and the maps and upstreams that are generated from it (docs/EDGE.md)."""
 import fcntl
+import json
 import os
 import re
+import secrets
+import shutil
 from collections.abc import Iterable, Mapping, Sequence
 from typing import IO
 
-from .channels import ADDRESS, NAME, Wrong
+from .channels import ADDRESS, NAME, Wrong, check_use
 from .failures import Failure, run
+from .passwords import Rendition, User, read_users, renditions_of
 
 FOLDER = "/etc/nginx/hls_origin"
 LOCK = "/run/hls_edge.lock"
 HOST = r"[a-z0-9]([a-z0-9-]*[a-z0-9])?(\.[a-z0-9]([a-z0-9-]*[a-z0-9])?)*"
 # First segments of the edge's own paths: a channel at one of these would hide them.
 TAKEN = {"/hls", "/origin"}
-DOORS = ("operators", "encoders")
 Channel = tuple[list[str], list[str]]       # a channel's places at the edge, and its origins' addresses
-# A user with separate limits. (A longer name doesn't fit into a bucket of nginx's hash, so it shares the limits of unknown users.)
-USER = r"[A-Za-z0-9_.@-]{1,20}"
 
 
 def address(text: str) -> str:
-    """Returns an origin's address if it is valid. A name isn't: nginx would have to resolve it when it starts."""
+    """Returns an origin's address if it is valid. A name isn't: nginx would have to resolve it when it starts. Nor is what can't be an
+    origin, and would give clients access to something else: the edge itself, or a link's own services such as a cloud's metadata."""
     if not re.fullmatch(ADDRESS, text):
         raise Wrong(f"{text!r} isn't IP:PORT")
+    check_use(text)
     return text
 
 
@@ -65,23 +68,12 @@ def read_channels(path: str) -> dict[str, Channel]:
 
 def write_whole(path: str, text: str, mode: int) -> None:
     """Writes a file atomically."""
-    with open(os.open(path + ".new", os.O_WRONLY | os.O_CREAT | os.O_TRUNC, mode), "w", encoding="utf-8", errors="surrogateescape") as file:
+    with open(os.open(path + ".new", os.O_WRONLY | os.O_CREAT | os.O_TRUNC | os.O_NOFOLLOW, mode), "w", encoding="utf-8", errors="surrogateescape") as file:
         os.fchmod(file.fileno(), mode)
         file.write(text)
         file.flush()
         os.fsync(file.fileno())
     os.replace(path + ".new", path)
-
-
-def users_of(folder: str, name: str) -> list[str]:
-    """Returns the user names in a channel's password files."""
-    found = set()
-    for door in DOORS:
-        path = os.path.join(folder, door, name + ".htpasswd")
-        if os.path.exists(path):
-            with open(path, encoding="utf-8", errors="replace") as file:
-                found |= {line.partition(":")[0] for line in file}
-    return sorted(one for one in found if re.fullmatch(USER, one))
 
 
 def map_of(key: str, value: str, default: str, lines: Iterable[str]) -> str:
@@ -105,17 +97,54 @@ def upstreams(name: str, origins: Sequence[str]) -> str:
     return "\n".join(f"upstream {block} {{\n    zone {block} 64k;\n    " + "\n    ".join(lines) + "\n}" for block, lines in blocks)
 
 
-def generated(channels: Mapping[str, Channel], users: Mapping[str, list[str]]) -> str:
+def known(users: Mapping[str, Sequence[User]]) -> list[str]:
+    """Returns the maps to a user with separate limits: by the beginning of the password, or by the name if the file lacks that. Names are
+    patterns, since nginx compares other keys in any case: users whose names differ in case alone would be one, and a conflict."""
+    of_all = [(name, user) for name, found in users.items() for user in found]
+    return [map_of('"$hls_channel $remote_user"', "$hls_named_user", '""', [f'"~^{name} {re.escape(user.name)}\\z" {user.name}' for name, user in of_all if not user.begins]),
+            map_of('"$hls_channel $http_authorization"', "$hls_known_user", "$hls_named_user",
+                   [f'"~^{name} (?i:basic) +{re.escape(user.begins)}" {user.name}' for name, user in of_all if user.begins])]
+
+
+def secret_of(text: str | None) -> str:
+    """Returns the secret that the edge's two servers share: that of the file before, since during a reload both versions run, or a new one."""
+    found = re.search(r'^map "" \$hls_secret \{\n    default ([0-9a-f]{32});', text or "", re.M)
+    return found[1] if found else secrets.token_hex(16)
+
+
+def generated(channels: Mapping[str, Channel], users: Mapping[str, Sequence[User]], renditions: Iterable[Rendition], secret: str) -> str:
     """Returns the text of generated.conf."""
     stand_ins = [one for _, origins in channels.values() for one in origins[1:]]
     return "\n\n".join([
         "# Generated from `channels` by hls_channel, which overwrites changes.",
         *places_of(channels),
-        map_of('"$hls_channel $remote_user"', "$hls_known_user", '""', [f'"{name} {user}" {user}' for name in channels for user in users[name]]),
+        *known(users),
+        map_of('"$hls_kind $hls_channel $hls_rendition"', "$hls_passwords", "$hls_channel", [f'"encoders {name} {number}" {name}.{number}' for name, number in renditions]),
+        map_of('""', "$hls_secret", secret, []),
+        map_of("$http_x_edge", "$in_is_own", '""', [f"{secret} 1"]),
         map_of('"$hls_channel $hls_number"', "$hls_process", '""', [f'"{name} {n}" {name}.{n}' for name, (_, origins) in channels.items() for n in range(1, len(origins) + 1)]),
         map_of("$upstream_addr", "$in_stand_in", '""', [f'"~(^|[ ,]){re.escape(one)}$" 1' for one in stand_ins]),
         *(upstreams(name, origins) for name, (_, origins) in channels.items()),
     ]) + "\n"
+
+
+def write_operated(channels: Mapping[str, Channel]) -> None:
+    """Writes a file for each operator, with the channels that the user operates, which the page of all channels reads
+    (edge/pages/operate_all.js). Those who may read the passwords may read it."""
+    passwords, folder = os.path.join(FOLDER, "operators"), os.path.join(FOLDER, "operated")
+    if not os.path.isdir(passwords):
+        return
+    operated: dict[str, list[dict[str, object]]] = {}
+    for name, (places, origins) in channels.items():
+        for user in read_users(FOLDER, name, ("operators",)):
+            operated.setdefault(user.name + ".json", []).append({"name": name, "place": places[0], "origins": len(origins)})
+    os.makedirs(folder, exist_ok=True)
+    shutil.copymode(passwords, folder)
+    os.chown(folder, -1, os.stat(passwords).st_gid)
+    for old in set(os.listdir(folder)) - set(operated):
+        os.remove(os.path.join(folder, old))
+    for file, found in operated.items():
+        write_whole(os.path.join(folder, file), json.dumps(found) + "\n", 0o644)
 
 
 def locked() -> IO[str]:
@@ -129,7 +158,8 @@ def apply(reload: bool = True) -> None:
     """Writes generated.conf, has nginx test it, and reloads nginx. The caller holds the lock."""
     channels, path = read_channels(os.path.join(FOLDER, "channels")), os.path.join(FOLDER, "generated.conf")
     before = open(path, encoding="utf-8").read() if os.path.isfile(path) else None
-    write_whole(path, generated(channels, {name: users_of(FOLDER, name) for name in channels}), 0o600)
+    users, renditions = {name: read_users(FOLDER, name) for name in channels}, [one for name in channels for one in renditions_of(FOLDER, name)]
+    write_whole(path, generated(channels, users, renditions, secret_of(before)), 0o600)
     try:
         run("nginx", "-t")
     except Failure as fault:
@@ -137,5 +167,6 @@ def apply(reload: bool = True) -> None:
         if before is not None:
             write_whole(path, before, 0o600)
         raise Failure(f"{fault}\nnginx rejected the configuration, and keeps the old one; the rejected file is {path}.refused") from None
+    write_operated(channels)
     if reload:
         run("nginx", "-s", "reload")

@@ -17,9 +17,9 @@ const SILENCE = 15000; // milliseconds after which a request is aborted
 const EVERY = 70; // milliseconds between two requests: an edge limits an operator's rate
 const AT_ONCE = 10; // requests that may exceed that rate
 
-// Each request waits for its turn.
 let due = 0;
-async function asked(path, options = {}) {
+/// Sends a request when it is its turn.
+export async function asked(path, options = {}) {
     const now = performance.now();
     due = Math.max(due, now - AT_ONCE * EVERY) + EVERY;
     if (due > now) await new Promise((done) => { setTimeout(done, due - now); });
