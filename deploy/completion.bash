@@ -10,6 +10,7 @@ _hls() {
         hls_origin,*,-*) words=$(hls_origin --help | awk -v part="${command/size/serve}:" '/^[a-zA-Z]/ { on = $1 == part } on && /^  --/ { print $1 }') ;;
         hls_origin,*) words= ;;
         *,-*) words=$("$tool" --help 2> /dev/null | grep -oE -- '--[a-z][a-z-]+' | sort -u) ;;
+        hls_channel,1,*) words=$(hls_channel --help 2> /dev/null | awk '$1 == "hls_channel" { print $2 }') ;;
         *) words=$(find /etc/hls_origin -maxdepth 1 -name '*.conf' -printf '%f\n' 2> /dev/null | sed 's/\.conf$//') ;;
     esac
     mapfile -t COMPREPLY < <(compgen -W "$words" -- "$word")

@@ -8,7 +8,7 @@ import socket
 import subprocess
 import tempfile
 import urllib.parse
-from collections.abc import Callable
+from collections.abc import Callable, Sequence
 
 from . import edge
 from .certificates import PROGRAM
@@ -84,17 +84,39 @@ def need_of(values: dict[str, str]) -> tuple[str, str]:
     return found["LimitAS"], found["MemoryMax"]
 
 
+def check_own(values: dict[str, str]) -> None:
+    """Tests that the options have none that belongs to a single start, or to the service."""
+    for word in values.get("OPTIONS", "").split():
+        if word == "--anew":
+            raise Wrong("OPTIONS: --anew would empty the channel at each start: remove it; `hls_channel anew` begins an empty channel once")
+        if word.partition("=")[0] in ("--base", "--run"):
+            raise Wrong(f"OPTIONS: {word.partition('=')[0]} is the service's own: remove it")
+
+
 def check_start(values: dict[str, str]) -> None:
     """Starts the program with a channel's options, at an address that no machine has and with a temporary journal, so that it ends at once."""
     options = values.get("OPTIONS", "").split()
     with tempfile.TemporaryDirectory() as folder:
-        elsewhere = [os.path.join(folder, "channel") if before == "--journal" and word else word for before, word in zip(["", *options], options)]
+        there = os.path.join(folder, "channel")
+        elsewhere = [there if before == "--journal" and word else re.sub("^--journal=.+", f"--journal={there}", word) for before, word in zip(["", *options], options)]
         said_by("serve", [*elsewhere, "203.0.113.1:9", *values.get("RENDITIONS", "").split()])
 
 
+def listener_at(host: str, port: str) -> str | None:
+    """Returns the name of the process that listens at an address of this machine, if there is one and this user may know it."""
+    with contextlib.suppress(OSError, subprocess.TimeoutExpired):
+        text = subprocess.run(["ss", "-Hltnp", f"sport = :{port}"], stdin=subprocess.DEVNULL, capture_output=True, text=True, errors="replace", timeout=5).stdout
+        for there, name in re.findall(r'^\S+ +\d+ +\d+ +(\S+):\d+ .*users:\(\("([^"]*)"', text, re.M):
+            if host == "0.0.0.0" or there in (host, "0.0.0.0", "*"):
+                return str(name)
+    return None
+
+
 def check_address(values: dict[str, str]) -> None:
-    """Tests that the address belongs to this machine."""
-    host = values.get("ADDRESS", "").rpartition(":")[0]
+    """Tests that the address belongs to this machine, and that no other program listens there. (Another channel's file is compared.)"""
+    host, _, port = values.get("ADDRESS", "").rpartition(":")
+    if (name := listener_at(host, port)) not in (None, "hls_origin"):
+        raise Wrong(f"ADDRESS: {name} listens at {host}:{port}: use another port")
     try:
         with socket.socket() as one:
             one.bind((host, 0))
@@ -126,6 +148,22 @@ def collisions(values: dict[str, str], other: dict[str, str]) -> list[str]:
     return found + [f"EDGE: {one}" for one in sorted(both)]
 
 
+def wrong_values(values: dict[str, str], path: str, is_served_here: bool) -> list[str]:
+    """Returns the faults of a file's values."""
+    # a wrong argument of the program is reported without what depends on it, such as lengths that don't fit together
+    arguments: list[Callable[[dict[str, str]], object]] = [check_own, need_of, check_start] + [lambda values: Ladder(values, path)] * bool(values.get("INPUT"))
+    rest: list[Callable[[dict[str, str]], object]] = [places_of, origins_at_edge, senders_of, lambda values: journal_of(values, name_of(path))]
+    rest += [check_address] * is_served_here
+    found = []
+    for group in [arguments, *([one] for one in rest)]:
+        try:
+            for check in group:
+                check(values)
+        except Wrong as fault:
+            found += [str(fault)] * (str(fault) not in found)
+    return found
+
+
 def faults_of(path: str, folder: str = FOLDER, channels: str | None = None, is_served_here: bool = False) -> list[str]:
     """Returns the faults of a channel's file, a line for each. `channels` is the edge's file of channels."""
     try:
@@ -135,16 +173,7 @@ def faults_of(path: str, folder: str = FOLDER, channels: str | None = None, is_s
     found = [] if re.fullmatch(NAME, name_of(path)) else [f"{name_of(path)!r} isn't a valid name: a-z, 0-9, _ and -, at most 24 characters"]
     found += [f"{key}: unknown key; the keys are {' '.join(KEYS)}" for key in values if key not in KEYS]
     found += [f"{key} is missing" for key in ("ADDRESS", "RENDITIONS") if not values.get(key)]
-    checks: list[Callable[[dict[str, str]], object]] = [] if found else [need_of, check_start, places_of, origins_at_edge, senders_of, lambda values: journal_of(values, name_of(path))]
-    if is_served_here and checks:
-        checks.append(check_address)
-    if values.get("INPUT") and checks:
-        checks.append(lambda values: Ladder(values, path))
-    for check in checks:
-        try:
-            check(values)
-        except Wrong as fault:
-            found += [str(fault)] * (str(fault) not in found)
+    found = found or wrong_values(values, path, is_served_here)
     for name, other in others(path, folder).items():
         found += [f"{one} is already used by {name}" for one in collisions(values, other)]
     if channels and os.path.exists(channels) and not found:
@@ -161,18 +190,26 @@ def in_bytes(text: str) -> int:
     return int(text.rstrip("KMGT")) << {"K": 10, "M": 20, "G": 30, "T": 40}.get(text[-1:], 0)
 
 
-def warnings_of(path: str, folder: str = FOLDER, memory: int | None = None) -> list[str]:
+def warnings_of(path: str) -> list[str]:
     """Returns warnings for a file without faults: what works, but is rarely intended."""
-    values, found = read_values(path), []
+    values = read_values(path)
     url = values.get("INPUT", "")
     if listens_at(values) and url.startswith("srt") and "passphrase=" not in url and not re.match(r"srt://(127\.|localhost)", url):
-        found.append("INPUT: anyone who can reach this port may send: add &passphrase=.. (10 to 79 characters)")
+        return ["INPUT: anyone who can reach this port may send: add &passphrase=.. (10 to 79 characters)"]
+    return []
+
+
+def memory_warning(paths: Sequence[str], folder: str = FOLDER, memory: int | None = None) -> str | None:
+    """Returns a warning if the machine has less memory than its channels may need, these ones included."""
     memory = os.sysconf("SC_PHYS_PAGES") * os.sysconf("SC_PAGE_SIZE") if memory is None else memory
-    channels = [values, *others(path, folder).values()]
-    total = min(1 << 30, memory // 4) if any(one.get("EDGE") for one in channels) else 0     # nginx's caches (docs/EDGE.md)
-    for one in channels:
+    channels = {name_of(path): read_values(path) for path in paths}
+    channels |= {name: values for path in paths[:1] for name, values in others(path, folder).items() if name not in channels}
+    total = memory // 4 if any(one.get("EDGE") for one in channels.values()) else 0       # nginx's caches (docs/EDGE.md)
+    # without sockets: the system limits those of all channels together (net.ipv4.tcp_mem)
+    for one in channels.values():
         with contextlib.suppress(Wrong):
-            total += in_bytes(need_of(one)[1])
-    if total > memory:
-        found.append(f"all channels and the edge's caches together may need {total >> 20} MiB, and the machine has {memory >> 20} MiB: shorten --keep, or use more machines")
-    return found
+            total += in_bytes(need_of(one)[0])
+    if total <= memory:
+        return None
+    count = f"the {len(channels)} channels" if len(channels) > 1 else "the channel"
+    return f"{count} and the edge's caches together may need {total >> 20} MiB, and the machine has {memory >> 20} MiB: shorten --keep, or use more machines"

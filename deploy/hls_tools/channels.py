@@ -1,7 +1,9 @@
 """A channel's file, /etc/hls_origin/CHANNEL.conf: read as systemd reads it, and validated before anything runs."""
+import ipaddress
 import os
 import re
 import shlex
+import stat
 import urllib.parse
 from fractions import Fraction
 from typing import NamedTuple
@@ -13,6 +15,7 @@ SOUND_RATE = 48000
 AAC_FRAME = 1024            # samples in an AAC frame; the encoder puts one frame before its input
 BYTE = "(?:25[0-5]|2[0-4][0-9]|1[0-9]{2}|[1-9]?[0-9])"
 ADDRESS = rf"{BYTE}(?:\.{BYTE}){{3}}:(?:[1-9][0-9]{{0,3}}|[1-5][0-9]{{4}}|6[0-4][0-9]{{3}}|65[0-4][0-9]{{2}}|655[0-2][0-9]|6553[0-5])"
+INNER_PORT = 8079           # the edge's inner server listens at it on loopback (edge/hls_http.conf)
 NAME = "[a-z0-9][a-z0-9_-]{0,23}"
 HOST = r"[A-Za-z0-9_]+(?:(?:\.|-+)[A-Za-z0-9_]+)*"
 
@@ -33,12 +36,19 @@ class Rendition(NamedTuple):
     tolerance: int
 
 
+def read_regular(path: str, limit: int) -> bytes:
+    """Returns the beginning of a regular file. A pipe or a device, which might never answer, is an OSError."""
+    with open(os.open(path, os.O_RDONLY | os.O_NONBLOCK | os.O_CLOEXEC), "rb") as file:
+        if not stat.S_ISREG(os.fstat(file.fileno()).st_mode):
+            raise OSError("it isn't a regular file")
+        return file.read(limit)
+
+
 def read_values(path: str) -> dict[str, str]:
     """Reads KEY=value or KEY="value" lines, as systemd reads an EnvironmentFile."""
     found: dict[str, str] = {}
     try:
-        with open(path, encoding="utf-8") as file:
-            text = file.read(1 << 20)
+        text = read_regular(path, 1 << 20).decode()
         if text.startswith("\ufeff"):
             raise ValueError("it begins with a byte order mark, after which systemd reads no key: save it without")
         if "\0" in text:
@@ -72,10 +82,21 @@ def address_of_file(path: str) -> str:
     return reachable(address)
 
 
+def check_use(address: str) -> None:
+    """Tests that an origin can have an address of the form IP:PORT. Wrong if it is the edge's own, or one that no other machine reaches."""
+    host, _, port = address.rpartition(":")
+    there = ipaddress.IPv4Address(host)
+    if int(port) == INNER_PORT and (there.is_loopback or there.is_unspecified):
+        raise Wrong(f"{address}: port {INNER_PORT} is the edge's own: use another one")
+    if there.is_link_local or there.is_multicast or there.is_reserved:
+        raise Wrong(f"{address} can't be an origin's address: use one of the network")
+
+
 def option(values: dict[str, str], name: str, default: str) -> str:
     """Returns the value of an option of serve."""
     options = values.get("OPTIONS", "").split()
-    return options[options.index(name) + 1] if name in options[:-1] else default
+    joined = [one.removeprefix(name + "=") for one in options if one.startswith(name + "=")]
+    return options[options.index(name) + 1] if name in options[:-1] else joined[0] if joined else default
 
 
 def number(values: dict[str, str], name: str, default: int) -> int:

@@ -3,7 +3,7 @@ import os
 import tempfile
 
 from .certificates import PROGRAM
-from .failures import run
+from .failures import Failure, run
 
 BOOT_ID = "/proc/sys/kernel/random/boot_id"
 # In a container this path is a mount of its own, over which nothing can be mounted.
@@ -25,7 +25,10 @@ def rsync(*words: str) -> None:
 
 
 def copy(source: str, folder: str) -> None:
-    """Copies a folder that rsync can reach. The second pass copies what was written during the first."""
+    """Copies the files of a folder that rsync can reach. The second pass copies what was written during the first. The folder is another
+    user's, so it isn't written through a link."""
+    if os.path.islink(folder):
+        raise Failure(f"{folder} is a link: remove it")
     for _ in range(2):
         os.makedirs(folder, mode=0o700, exist_ok=True)
-        rsync("-a", "--delete", source + "/", folder + "/")
+        rsync("-a", "--no-links", "--no-D", "--delete", source + "/", folder + "/")

@@ -60,10 +60,24 @@ def trust(authority: str | None) -> ssl.SSLContext:
         raise Failure(f"--ca {authority}: {fault.strerror if fault.errno else 'it has no PEM certificate'}", 2) from fault
 
 
-class Origin:
-    """An origin, by its own address or by a channel's URL at an edge. A user and a password are taken from the URL or from ~/.netrc."""
+class PlacedConnection(http.client.HTTPConnection):
+    """A connection to a host at an address of this machine, whatever its name resolves to."""
 
-    def __init__(self, word: str, *, authority: str | None = None, agent: str = "hls_tools", timeout: float = TIMEOUT) -> None:
+    def __init__(self, host: str, port: int | None, *, place: tuple[str, int], context: ssl.SSLContext | None, timeout: float) -> None:
+        super().__init__(host, port, timeout=timeout)
+        self.place, self.context = place, context
+
+    def connect(self) -> None:
+        self.sock = socket.create_connection(self.place, self.timeout)
+        if self.context:
+            self.sock = self.context.wrap_socket(self.sock, server_hostname=self.host)
+
+
+class Origin:
+    """An origin, by its own address or by a channel's URL at an edge. A user and a password are taken from the URL or from ~/.netrc.
+    With a patience of 0 each request is made once."""
+
+    def __init__(self, word: str, *, authority: str | None = None, agent: str = "hls_tools", timeout: float = TIMEOUT, patience: float = PATIENCE) -> None:
         url = split_url(url_of(word))
         if url is None:
             raise Failure(f"{word} isn't an origin's address: write 10.0.0.1:8080, or a channel's URL at an edge, https://edge.example.org/news", 2)
@@ -71,12 +85,16 @@ class Origin:
         place = url.netloc.rpartition("@")[2]
         self.url = f"{url.scheme}://{place}{self.prefix}"
         self.name = place if url.scheme == "http" and not self.prefix else self.url
-        self.timeout, self.patience = timeout, PATIENCE
+        self.timeout, self.patience = timeout, patience
         self.headers = {"User-Agent": agent, **self._authorization(url)}
         kind: Callable[..., http.client.HTTPConnection] = http.client.HTTPConnection
         if url.scheme == "https":
             kind = functools.partial(http.client.HTTPSConnection, context=trust(authority))
         self.connection = kind(url.hostname or "", url.port, timeout=timeout)
+
+    def connect_at(self, place: tuple[str, int], context: ssl.SSLContext | None) -> None:
+        """Has requests go to this address, whatever the host's name resolves to."""
+        self.connection = PlacedConnection(self.connection.host, self.connection.port, place=place, context=context, timeout=self.timeout)
 
     @staticmethod
     def _authorization(url: urllib.parse.SplitResult) -> dict[str, str]:
@@ -105,7 +123,7 @@ class Origin:
                 time.sleep(PAUSE)
                 continue
             wait = self._put_off(response)
-            if wait is None or time.monotonic() - begun > (self.patience if response.status in (502, 504) else BUSY):
+            if wait is None or not self.patience or time.monotonic() - begun > (self.patience if response.status in (502, 504) else BUSY):
                 return response
             time.sleep(wait)
 

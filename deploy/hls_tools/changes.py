@@ -1,0 +1,97 @@
+"""What a restart with a channel's file costs: whether the channel in its journal continues, or an empty one begins."""
+import os
+import re
+import shutil
+import subprocess
+from typing import NamedTuple
+
+from .certificates import PROGRAM
+from .channels import option
+from .services import arguments_of, read_units
+
+STATE, RUN = "/var/lib/hls_origin", "/run/hls_origin"
+PATIENCE = 60               # seconds that the program may take to read a journal
+LOST = re.compile(r"(?P<why>.*); (?P<seconds>\d+) s would be lost")
+
+
+class Comparison(NamedTuple):
+    """What `hls_origin journal --check` says of a start: whether it continues the journal's channel, why not, and how many seconds of
+    recordings the journal has, if that is known."""
+
+    continues: bool
+    why: str
+    seconds: int | None
+
+
+def running_options(name: str) -> list[str]:
+    """Returns the arguments of the process that serves a channel now, without those of a single start; nothing if there is none."""
+    service = f"hls_origin@{name}"
+    words = arguments_of(read_units([service]).get(service, {}).get("MainPID", ""))
+    if words[1:2] != ["serve"]:
+        return []
+    return [word for before, word in zip(words[1:], words[2:]) if word not in ("--base", "--anew") and before != "--base"]
+
+
+def journal_now(name: str) -> str | None:
+    """Returns the folder of the channel's journal: that of the running process, or else the one that the service left."""
+    if words := running_options(name):
+        return option({"OPTIONS": " ".join(words)}, "--journal", "") or None
+    folder = os.path.join(STATE, name, "channel")
+    return folder if os.path.lexists(os.path.join(folder, "log")) else None
+
+
+def compare(name: str, arguments: list[str]) -> Comparison | None:
+    """Compares a start with these arguments with the journal that they name; None if the program can't compare them. The base
+    has the numbers that players have seen. One of other renditions isn't comparable."""
+    base = os.path.join(RUN, name + ".base")
+    for words in [["--base", base, *arguments]] * os.path.exists(base) + [arguments]:
+        try:
+            done = subprocess.run([PROGRAM, "journal", "--check", *words], stdin=subprocess.DEVNULL, capture_output=True, text=True, errors="replace", timeout=PATIENCE)
+        except (OSError, subprocess.TimeoutExpired):
+            return None
+        if done.returncode == 0 and (found := re.search(r"^continues (\d+) s$", done.stdout, re.M)):
+            return Comparison(True, "", int(found[1]))
+        if done.returncode == 1 and (lost := LOST.search(done.stdout)):
+            return Comparison(False, lost["why"], int(lost["seconds"]))
+    return None
+
+
+def arguments_in(values: dict[str, str]) -> list[str]:
+    """Returns the arguments of serve that a channel's file gives."""
+    return [*values.get("OPTIONS", "").split(), values.get("ADDRESS", ""), *values.get("RENDITIONS", "").split()]
+
+
+def kept_seconds(name: str, values: dict[str, str]) -> int | None:
+    """Returns how many seconds of recordings a restart with these values continues with; None if it continues none."""
+    found = compare(name, arguments_in(values))
+    return found.seconds if found and found.continues else None
+
+
+def cost_of(name: str, values: dict[str, str]) -> str | None:
+    """Returns what ends if the channel restarts with these values; None if it continues, or if nothing is kept now."""
+    folder, now = option(values, "--journal", ""), journal_now(name)
+    if now and folder != now:
+        kept = compare(name, running_options(name) or ["--journal", now, *arguments_in(values)])
+        found: Comparison | None = Comparison(False, f"OPTIONS has no --journal {now}", kept.seconds if kept else None)
+    elif folder and os.path.lexists(os.path.join(folder, "log")):
+        found = compare(name, arguments_in(values))
+    else:
+        return None
+    if found is None or found.continues:
+        return None
+    what = "its recordings" if found.seconds is None else f"{found.seconds} s of recordings"
+    return f"this begins an empty channel: {what} end ({found.why}); `hls_channel anew {name}` does that"
+
+
+def set_aside(folder: str) -> str:
+    """Renames the journal of a channel that was stopped, so that no start continues it, as prepare_journal does. Returns its new name. What is
+    renamed or removed may be a link of the service's user, and isn't followed."""
+    aside, before = folder + ".aside", folder + ".aside.1"
+    if os.path.lexists(aside):
+        if os.path.islink(before):
+            os.remove(before)
+        elif os.path.lexists(before):
+            shutil.rmtree(before)
+        os.rename(aside, before)
+    os.rename(folder, aside)
+    return aside
