@@ -81,6 +81,7 @@ def log_is_bounded(site):
     edge.raw("/hls/1.m3u8", "User-Agent: begin\r\n", here=here, method="A" * 3000)
     errors = sum(map(len, edge.errors()))
     asked = {}
+    edge.raw("/hls/0.m3u8", "User-Agent: quoted" + '"' * 3800 + "\r\n", here=here)
     for path in ("/", "/hls/0.m3u8", "/nothing", "/sport/hls/9999.m3u8"):
         requests = [request(path, f"User-Agent: flood {path} {'x' * 900}\r\n") for _ in range(3000)]
         asked[path] = flood(edge, requests + [request("/watch.html", last=True)], f"127.9.71.{len(asked) + 1}")
@@ -95,6 +96,8 @@ def log_is_bounded(site):
     lines = edge.lines("hls_origin.log")
     own = [line for line in lines if '"agent":"begin' in line]
     check("what a client says is cut", own and max(map(len, own)) < 1000, [len(line) for line in own])
+    quoted = [line for line in lines if '"agent":"quoted' in line]
+    check("nothing that a client says is doubled", len(quoted) == 1 and len(quoted[0]) < 420, quoted)
     for path, (statuses, seconds) in asked.items():
         of_flood = [json.loads(line) for line in lines if f'"agent":"flood {path} ' in line]
         written, stand = sum(len(line) for line in lines if f'"agent":"flood {path} ' in line), sum(line["requests"] for line in of_flood)
@@ -131,6 +134,40 @@ def refused_quietly(site):
     check("1100 requests that are refused write nothing into nginx's own logs", max(grown.values()) < 1000, (grown, edge.errors()[-1:]))
 
 
+def rotated(site):
+    """A log that is large is replaced, by logrotate with the package's file, and nobody else reads the new one."""
+    need(logrotate="logrotate")
+    edge, folder = site.edge, os.path.join(site.edge.folder, "rotation")
+    text = edge.text("logrotate")
+    for old, new in (("/var/log/nginx", edge.folder), ("/run/nginx.pid", edge.folder + "/pid"), ("\tignoreduplicates\n", "\tignoreduplicates\n\tsu root root\n")):
+        check(f"edge/logrotate has {old.strip()}", old in text)
+        text = text.replace(old, new)
+    write(os.path.join(folder, "d", "hls_origin"), text)
+    write(os.path.join(folder, "d", "nginx"), f"{edge.folder}/*.log {{\n\tsu root root\n\tsize 1\n\tmissingok\n}}\n")
+    write(os.path.join(folder, "conf"), f"include {folder}/d\n")
+    large = os.path.join(folder, "error.log")
+    write(large, "")
+    os.truncate(large, 251 << 20)
+    write(os.path.join(folder, "other"), text.replace(edge.folder, folder))
+    done = subprocess.run(["logrotate", "-s", os.path.join(folder, "other_state"), os.path.join(folder, "other")], capture_output=True, text=True)
+    check("nginx's own log is replaced, too: a stranger's broken handshakes are lines in it", done.returncode == 0 and os.path.getsize(large) == 0, done.stderr)
+    log, words = os.path.join(edge.folder, "hls_origin.log"), ["logrotate", "-s", os.path.join(folder, "state")]
+    before, aside = os.stat(log).st_ino, edge.lines("hls_origin.log")
+    done = subprocess.run([*words, os.path.join(folder, "d", "hls_origin")], capture_output=True, text=True)
+    check("a log that is small stays", done.returncode == 0 and os.stat(log).st_ino == before, done.stderr)
+    with open(log, "r+b") as file:
+        file.truncate(251 << 20)
+    done = subprocess.run([*words, os.path.join(folder, "conf")], capture_output=True, text=True)
+    found = os.stat(log)
+    check("a large one is replaced, and nginx's own entry has nothing to say", done.returncode == 0 and not done.stderr and found.st_ino != before and found.st_mode & 0o777 == 0o640, (done.stderr, found))
+    edge.raw("/hls/0.m3u8", "User-Agent: rotated\r\n", here="127.9.70.2")
+    time.sleep(5.6)
+    check("nginx writes the new one", any('"agent":"rotated"' in line for line in edge.lines("hls_origin.log")))
+    # later checks count all lines
+    write(log, "\n".join([*aside, *edge.lines("hls_origin.log")]) + "\n", 0o640)
+    subprocess.run([*edge.words, "-s", "reopen"], check=True, stderr=subprocess.DEVNULL)
+
+
 def is_json(line):
     try:
         return isinstance(json.loads(line)["status"], int)
@@ -160,6 +197,8 @@ def doors(site):
     check("and with them again", edge.edge().returncode == 0 and edge.ask("GET", "/sport/origin/1/status", user=OPERATOR)[0] == 200)
     held(site)
     flooded(site)
+    known_name(site)
+    one_rendition(site)
     guessed(site)
 
 
@@ -227,19 +266,6 @@ def flooded(site):
     check("a channel's own host is the site's", status != 403, status)
 
 
-def documented(edge, path, user):
-    """A file of passwords as docs/EDGE.md makes it: its password."""
-    with open(os.path.join(ROOT, "docs", "EDGE.md"), encoding="utf-8") as file:
-        line = re.search(r"^htpasswd .*operators.*$", file.read(), re.M)[0]
-    need(htpasswd="apache2-utils")
-    line = re.sub(r"/etc/nginx/hls_origin/operators\S*", path, line).replace("olga", user)
-    if os.path.exists(path):
-        os.remove(path)
-    done = subprocess.run(["bash", "-c", line], capture_output=True, text=True, input="secret\nsecret\n")
-    os.chmod(path, 0o644)
-    return done.stderr.split("\n")[0] or "secret"
-
-
 def spent(edge):
     """Seconds of a processor that nginx's processes have taken."""
     ticks = 0
@@ -267,9 +293,9 @@ def crowd(edge, path):
 
 def guessed(site):
     """Passwords that are wrong, of a name that is there, from many addresses: no worker is busy with them."""
-    edge, path = site.edge, os.path.join(site.edge.files, "operators", "news.htpasswd")
-    password = documented(edge, path, OPERATOR[0])
-    check("a file of passwords as documented", edge.edge().returncode == 0 and edge.ask("GET", "/origin/1/status", user=(OPERATOR[0], password))[0] == 200, password)
+    edge = site.edge
+    password = given(edge, "operators", "news", OPERATOR[0])
+    check("a file of passwords as documented", edge.ask("GET", "/origin/1/status", user=(OPERATOR[0], password))[0] == 200, password)
     before, tried = spent(edge), []
     for n in range(15):
         requests = [request("/origin/1/status", authorized((OPERATOR[0], f"wrong{n}"))) for _ in range(80)]
@@ -277,6 +303,62 @@ def guessed(site):
     cost = (spent(edge) - before) / max(1, tried.count(401))
     print(f"{tried.count(401)} wrong passwords: {1e6 * cost:.0f} µs of a processor each")
     check("a wrong password costs nginx no more than a request", tried.count(401) >= 1200 and cost < 0.0008, (tried.count(401), cost))
+    edge.set_passwords("news")
+    check("and the test's own again", edge.edge().returncode == 0)
+
+
+def given(edge, *words):
+    """The new password that `hls_channel password` gives."""
+    done = edge.tool("hls_channel", "password", *words)
+    check(f"hls_channel password {' '.join(words)}", done.returncode == 0 and re.fullmatch("[a-z2-7]{34}\n", done.stdout), (done.stdout, done.stderr))
+    return done.stdout.strip()
+
+
+def known_name(site):
+    """Wrong passwords under the encoder's own name, from its own address: the encoder goes on."""
+    edge, here, name, over, tried = site.edge, "127.9.76.1", ENCODER[0], threading.Event(), []
+    right, head = given(edge, "encoders", "news", name), "Content-Length: 0\r\n"
+    mode = os.stat(os.path.join(edge.files, "encoders", "news.htpasswd")).st_mode & 0o777
+    check("nobody else reads the file", mode == 0o640, oct(mode))
+
+    def stranger(wrong):
+        requests = [request("/origin/1/ingest/0", authorized((name, wrong)) + head, "PUT") for _ in range(500)]
+        while not over.is_set():
+            tried.extend(flood(edge, requests + [request("/watch.html", last=True)], here)[0][:500])
+    threads = [threading.Thread(target=stranger, args=(wrong,)) for wrong in ("encode me", "", "x" * 34, right[1:], right[:4] + "a" * 30)]
+    begun = time.monotonic()
+    for thread in threads:
+        thread.start()
+    time.sleep(0.5)
+    found = [edge.raw("/origin/1/ingest/0", authorized((name, right)) + head, here=here, method="PUT")[0] for _ in range(28)]
+    over.set()
+    for thread in threads:
+        thread.join()
+    told, admitted = {status: tried.count(status) for status in set(tried)}, 101 + 50 * (time.monotonic() - begun)
+    print(f"{len(tried)} wrong passwords under the encoder's name from its address: {told}; the encoder: {found.count(200)} of 28")
+    check("a flood of wrong passwords under its name keeps no encoder away", found == [200] * 28, found)
+    check("and gets no further than others", set(told) <= {401, 429} and told.get(401, 0) <= admitted, (told, admitted))
+    tried = flood(edge, [request("/origin/1/ingest/0", authorized((name, right[:-1] + letter)) + head, "PUT") for letter in "ab" * 100] + [request("/watch.html", last=True)], "127.9.76.2")[0]
+    check("a password that is wrong at its end is wrong", tried[:-1].count(200) <= 100 and tried[:-1].count(401) >= 50 and 429 in tried, {one: tried.count(one) for one in set(tried)})
+
+
+def one_rendition(site):
+    """A password that opens one rendition, and the channel's, which opens the others."""
+    edge, head = site.edge, "Content-Length: 0\r\n"
+
+    def put(number, *user):
+        return edge.raw(f"/origin/1/ingest/{number}", authorized(user) + head, here="127.9.76.3", method="PUT")[0]
+    right, own = (ENCODER[0], given(edge, "encoders", "news", ENCODER[0])), ("lena", given(edge, "encoders", "news.1", "lena"))
+    found = [put(number, *user) for user in (right, own) for number in (0, 1)]
+    check("each opens its own", found == [200, 401, 401, 200], found)
+    check("a rendition's encoder is no operator", edge.ask("GET", "/origin/1/status", user=own)[0] == 401)
+    again = ("lena", given(edge, "encoders", "news.1", "lena"))
+    check("a new password replaces the one before", [put(1, *own), put(1, *again)] == [401, 200])
+    os.remove(os.path.join(edge.files, "encoders", "news.1.htpasswd"))
+    check("without its file a rendition is the channel's again", edge.edge().returncode == 0 and [put(1, *again), put(1, *right)] == [401, 200])
+    for words in (["encoders", "news.16", "lena"], ["operators", "news.1", "olga"], ["encoders", "../news", "lena"], ["doors", "news", "lena"], ["encoders", "news", "a:b"], ["encoders", "news"]):
+        done = edge.tool("hls_channel", "password", *words)
+        check(f"hls_channel password {' '.join(words)} is refused", done.returncode == 2 and not done.stdout, (done.returncode, done.stderr))
     edge.set_passwords("news")
     check("and the test's own again", edge.edge().returncode == 0)
 
@@ -291,8 +373,8 @@ def made_up_segments(site):
     statuses, seconds = flood(edge, [request(path, "Range: bytes=0-9007199254740991\r\n", "HEAD") for path in made_up] + [request("/watch.html", last=True)], "127.9.75.3")
     passed = 300 - statuses[:-1].count(429)
     check("300 segments that are made up at once: two hundred, and twenty a second", 200 <= passed <= 202 + 20 * seconds, (passed, seconds, {one: statuses.count(one) for one in set(statuses)}))
-    statuses, _ = flood(edge, [request(path, method="HEAD") for path in (live * 100)[:300]] + [request("/watch.html", last=True)], "127.9.75.2")
-    check("300 live segments", statuses.count(200) == 301, {one: statuses.count(one) for one in set(statuses)})
+    statuses, _ = flood(edge, [request(path, "Range: bytes=0-0\r\n") for path in (live * 100)[:300]] + [request("/watch.html", last=True)], "127.9.75.2")
+    check("300 live segments", statuses.count(206) == 300, {one: statuses.count(one) for one in set(statuses)})
     found = [edge.raw(live[-1], here="127.9.75.3")[0], edge.raw("/hls/0.m3u8", here="127.9.75.3")[0]]
     check("whoever asks for what isn't there still has what is", found == [200, 200], found)
 
@@ -384,4 +466,4 @@ def connections(site):
     check("one address opens 300 at once and 100 a second, however soon it closes them", done.stdout.split()[8:] == ["True", "20"] * 2, (done.stdout, done.stderr))
 
 
-GROUPS = (log_is_bounded, refused_quietly, doors, made_up_segments, replies, both_protocols, connections)
+GROUPS = (log_is_bounded, rotated, refused_quietly, doors, made_up_segments, replies, both_protocols, connections)

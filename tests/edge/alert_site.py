@@ -222,6 +222,8 @@ class Prometheus:
             file.write(divided(rules.read(), by))
         with open(os.path.join(ROOT, "deploy", "prometheus", "prometheus.yml"), encoding="utf-8") as file:
             config = file.read().replace("15s", f"{round(15000 / by)}ms")
+        # without an Alertmanager, which tests/manual/runbook has
+        config = re.sub(r"  alertmanagers:\n.*\n", "", config)
         if not site.edge:
             config = config[:config.index("  # mtail: ")]
         for name, usual in (("node", 9100), ("mtail", 3903), ("blackbox", 9115)):

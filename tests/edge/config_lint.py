@@ -12,7 +12,7 @@ TOLD = {"return", "rewrite", "add_header", "proxy_pass", "proxy_set_header", "pr
 # What a client says, as he says it: a line feed or a slash in it would make two of one.
 RAW = re.compile(r"\$(?:uri|hls_said|document_uri|request_uri|args|query_string|http_\w+|arg_\w+|cookie_\w+|request|request_body)\b")
 # Where that is as it should be: HTTP keeps line feeds out of these, the first goes back to who sent it, and the last is the log's.
-RAW_ALLOWED = {("return", "301 https://$hls_own_host$request_uri"), ("proxy_pass", "http://hls_$hls_process$hls_path$is_args$args"), ("proxy_set_header", "$http_range"),
+RAW_ALLOWED = {("return", "301 https://$hls_own_host$request_uri"), ("proxy_pass", "http://hls_$hls_process$hls_path$is_args$args"), ("proxy_set_header", "$http_range"), ("proxy_set_header", "$http_x_range"),
                ("set", "$hls_said $uri")}
 # Where a request may go: variables that maps make of known channels, or that are captured from an inner path by a narrow form.
 TARGETS = {"hls_inner", "hls_$hls_process", "hls_$hls_process$hls_path", "hls_$hls_process$hls_path$is_args$args", "hls_$in_process$in_path", "hls_$in_channel.$in_number$in_path", "hls_$in_channel.0$in_path"}

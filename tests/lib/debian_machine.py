@@ -4,6 +4,7 @@ import os
 import re
 import shutil
 import subprocess
+import tempfile
 import time
 
 from harness import ROOT, check
@@ -14,16 +15,44 @@ exec ffmpeg -nostdin -v error -stats "${@:1:$#-1}" -i "${@: -1}" -t 8 -map 0:v:0
 """
 
 
+# The hierarchies of control groups in which a systemd keeps its units: one, or those of version 1 and 2 side by side.
+HIERARCHIES = [top for top in ("/sys/fs/cgroup/systemd", "/sys/fs/cgroup/unified", "/sys/fs/cgroup") if os.path.exists(top + "/cgroup.procs")]
+
+
+class ControlGroup:
+    """A machine's own control group in each hierarchy. Two machines in one group would share the groups of their units, and a systemd that
+    finds another one's process in a unit's group ends none of that unit's processes."""
+
+    def __init__(self):
+        first = tempfile.mkdtemp(prefix="machine-", dir=HIERARCHIES[0])
+        self.folders = [first, *(os.path.join(top, os.path.basename(first)) for top in HIERARCHIES[1:])]
+        for folder in self.folders[1:]:
+            os.mkdir(folder)
+
+    def enter(self):
+        """Moves the calling process into the group."""
+        for folder in self.folders:
+            with open(folder + "/cgroup.procs", "w") as file:
+                file.write("0")
+
+    def remove(self):
+        """Removes the group and those below it, once none of its processes is left."""
+        for folder in self.folders:
+            for at, _, _ in os.walk(folder, topdown=False):
+                wait(10, lambda at=at: not open(at + "/cgroup.procs").read())
+                os.rmdir(at)
+
+
 class Machine:
     """A booted Debian, by its own systemd's process."""
 
     def __init__(self, root, network=None):
-        self.root = root
+        self.root, self.group = root, ControlGroup()
         # one with a name outlives the machine, and so do viewers in it
         words = f"--network-namespace-path=/run/netns/{network}" if network else "--private-network"
         # a machine has the call that keep_sockets makes; systemd-nspawn refuses it
         self.nspawn = subprocess.Popen(["systemd-nspawn", "--quiet", "--boot", "-D", root, words, "--register=no", "--keep-unit", "--system-call-filter=pidfd_getfd"],
-                                       stdin=subprocess.DEVNULL, stdout=subprocess.DEVNULL, stderr=subprocess.DEVNULL)
+                                       preexec_fn=self.group.enter, stdin=subprocess.DEVNULL, stdout=subprocess.DEVNULL, stderr=subprocess.DEVNULL)
         self.leader, self.senders = None, {}
         for _ in range(100):
             time.sleep(0.5)
@@ -105,6 +134,7 @@ class Machine:
         except subprocess.TimeoutExpired:
             self.nspawn.kill()
             self.nspawn.wait()
+        self.group.remove()
 
 
 def wait(seconds, enough):
@@ -122,8 +152,8 @@ def make(program, *words, **more):
                           env={**os.environ, "HLS_ORIGIN": os.path.abspath(program)}, capture_output=True, text=True, **more)
 
 
-def debian(base, root, wanted):
-    """A fresh Debian, with what is wanted and what that needs downloaded, not installed."""
+def debian(base, root, wanted, more=""):
+    """A fresh Debian, with what is wanted and what that needs downloaded, not installed, and so what it shall have more."""
     if not os.path.isdir(base):
         done = subprocess.run(["debootstrap", "--variant=minbase", "--include=systemd,systemd-sysv,dbus,procps,man-db", "bookworm", base, "http://deb.debian.org/debian"],
                               capture_output=True, text=True)
@@ -137,7 +167,7 @@ def debian(base, root, wanted):
     with open(os.path.join(root, "etc", "hosts"), "w") as file:
         file.write("127.0.0.1 localhost\n::1 localhost\n")
     done = subprocess.run(["systemd-nspawn", "--quiet", "-D", root, "--register=no", "--keep-unit", "--pipe", "bash", "-c",
-                           f"cd /srv && apt-get -q update && apt-get install -q -y --download-only {wanted}"],
+                           f"cd /srv && apt-get -q update && apt-get install -q -y --download-only {wanted} {more}"],
                           capture_output=True, text=True, stdin=subprocess.DEVNULL)
     if done.returncode:
         raise SystemExit(done.stdout[-500:] + done.stderr[-500:])
@@ -148,6 +178,12 @@ def start_commands():
     text = open(os.path.join(ROOT, "docs", "START.md")).read()
     steps = text[:text.index("## Look at it")]
     return [line for one in re.findall(r"```\n(.*?)```", steps, re.S) for line in one.strip().split("\n")]
+
+
+def watch_commands():
+    """The commands that put the watchers in place, each a line of docs/RUNBOOK.md."""
+    text = open(os.path.join(ROOT, "docs", "RUNBOOK.md")).read()
+    return re.search(r"```\n(apt-get install .*?)\n```", text[text.index("## What is watched"):], re.S)[1].split("\n")
 
 
 def run_of(machine):

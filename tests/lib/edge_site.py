@@ -90,7 +90,7 @@ class Edge:
             ("edge.example.org;", "localhost 127.0.0.1 \"\";"), ("/var/www/acme", f"{self.folder}/acme"),
             ("/etc/nginx/edge.crt", self.certificate), ("/etc/nginx/edge.key", f"{self.folder}/edge.key"), *site_changes])
         for name in os.listdir(os.path.join(ROOT, "edge")):
-            if re.fullmatch(r"hls_(server|fields|viewers|operators|pages)\.conf", name):
+            if re.fullmatch(r"hls_(server|fields|lists|viewers|operators|pages)\.conf", name):
                 self.copy("nginx", name)
         self.copy("nginx", "hls_http.conf", [one for one in changes if one[0] not in self.text("hls_origin.conf")])
         write(os.path.join(self.folder, "sites-enabled", "other"), more)

@@ -64,11 +64,13 @@ def wait_for(port, seconds=20):
 
 
 class Origin:
-    """A server of its own process, and its log."""
+    """A server of its own process, and its log. Encoders send generated streams faster than in real time, so their rates aren't limited unless
+    the options say so."""
 
     def __init__(self, program, folder, options, renditions, port=None, name="origin", environment={}):
         self.port, self.environment = port or free_port(), {**environment, **os.environ}
-        self.words = [program, "serve", *options, f"127.0.0.1:{self.port}", *renditions]
+        rate = [] if "--unit-rate" in options else ["--unit-rate", "0"]
+        self.words = [program, "serve", *rate, *options, f"127.0.0.1:{self.port}", *renditions]
         self.log = os.path.join(folder, f"{name}.log")
         self.start()
 

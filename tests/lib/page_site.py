@@ -171,10 +171,10 @@ def certify(folder):
                    check=True, stderr=subprocess.DEVNULL)
 
 
-def edge_of(folder, origin):
-    """The edge, with the pages and one channel."""
+def edge_of(folder, origin, more=""):
+    """The edge, with the pages and one channel, or others too: lines of the file of channels."""
     from edge_site import Edge
-    edge = Edge(folder, f"main / 127.0.0.1:{origin.port}\n")
+    edge = Edge(folder, f"main / 127.0.0.1:{origin.port}\n{more}")
     for name in os.listdir(PAGES):
         shutil.copy(os.path.join(PAGES, name), os.path.join(edge.folder, "pages", name))
     return edge

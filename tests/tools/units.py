@@ -1,12 +1,17 @@
-"""Unit tests of deploy/hls_tools: readers of boxes, playlists, certificates and channel files, the client, and a channel's checks.
+"""Unit tests of deploy/hls_tools: readers of boxes, playlists, certificates and channel files, archives, the client, and a channel's checks.
 
     bash tests/lint_tools
 
 They need no program but a stand-in for it, and no network but this machine's.
 """
+import base64
+import contextlib
 import http.server
 import json
 import os
+import re
+import shutil
+import subprocess
 import sys
 import tempfile
 import threading
@@ -17,7 +22,7 @@ sys.path.insert(0, os.path.join(os.path.dirname(os.path.abspath(__file__)), ".."
 from scripts import DEPLOY, load_script, use_tools  # noqa: E402
 
 use_tools()
-from hls_tools import certificates, channel_checks, channels, edge, origins, programmes  # noqa: E402
+from hls_tools import archive_lists, caches, certificates, channel_checks, channels, edge, origins, passwords, programmes  # noqa: E402
 from hls_tools.boxes import boxes, count_units, init_length  # noqa: E402
 from hls_tools.failures import Failure, run  # noqa: E402
 
@@ -109,6 +114,74 @@ class Certificates(unittest.TestCase):
                 certificates.Certificate(text)
 
 
+class Archives(unittest.TestCase):
+    """The playlists of an archive, made from those of the last run, are those that all pieces make."""
+
+    def setUp(self):
+        temporary = tempfile.TemporaryDirectory()
+        self.addCleanup(temporary.cleanup)
+        self.folder = temporary.name
+
+    def piece(self, begin, end, renditions=2, target=4):
+        folder = os.path.join(self.folder, f"{begin:016}")
+        os.mkdir(folder)
+        rows = [" ".join(f"{at} {at} {at} 0 0" for _ in range(renditions)) for at in (begin, end)]
+        with open(os.path.join(folder, "certificate.txt"), "w", encoding="ascii") as file:
+            file.write("\n".join(["HLS-CUT-CERTIFICATE 1", f"target {target}", f"renditions {renditions}", "places 2", *rows, "plan 0 1", "end", ""]))
+        for number in range(renditions):
+            with open(os.path.join(folder, f"{number}.m3u8"), "w", encoding="ascii") as file:
+                file.write(f'#EXTM3U\n#EXT-X-TARGETDURATION:{target}\n#EXT-X-MAP:URI="{number}.mp4",BYTERANGE="9@0"\n#EXTINF:4.0,\n#EXT-X-BYTERANGE:9@9\n{number}.mp4\n#EXT-X-ENDLIST\n')
+        with open(os.path.join(folder, "master.m3u8"), "w", encoding="ascii") as file:
+            file.write(f"#EXTM3U\n# {renditions}\n")
+
+    def remove(self, begin):
+        shutil.rmtree(os.path.join(self.folder, f"{begin:016}"))
+
+    def join(self):
+        """Returns the playlists, and how many pieces were read."""
+        pieces = archive_lists.Pieces(self.folder)
+        archive_lists.Lists(self.folder).join(pieces)
+        names = [name for name in sorted(os.listdir(self.folder)) if name.endswith(".m3u8")]
+        return {name: archive_lists.read(os.path.join(self.folder, name)) for name in names}, len(pieces.found)
+
+    def same_as_whole(self, most_read):
+        joined, were_read = self.join()
+        self.assertLessEqual(were_read, most_read)
+        os.remove(os.path.join(self.folder, archive_lists.STATE))
+        self.assertEqual(self.join()[0], joined)
+        return joined
+
+    def test_join(self):
+        for at in range(0, 40, 4):
+            self.piece(at, at + 4)
+        self.assertEqual(self.same_as_whole(10)["1.m3u8"].count("DISCONTINUITY"), 0)
+        self.assertEqual(self.join()[1], 1)
+        self.piece(40, 44, target=5)
+        self.piece(50, 54)
+        self.assertIn("DISCONTINUITY", self.same_as_whole(3)["0.m3u8"])
+        self.remove(0)
+        self.remove(20)
+        self.assertEqual(self.same_as_whole(1)["0.m3u8"].count("DISCONTINUITY"), 2)
+        self.piece(54, 58, renditions=1)
+        self.same_as_whole(12)
+        self.piece(58, 62)
+        self.same_as_whole(12)
+        os.mkdir(os.path.join(self.folder, "0" * 15 + "9"))
+        with open(os.devnull, "w", encoding="ascii") as nowhere, contextlib.redirect_stderr(nowhere):
+            self.same_as_whole(2)
+
+    def test_changed(self):
+        """A playlist that was changed or lost is made again from the pieces."""
+        self.piece(0, 4)
+        self.piece(4, 8)
+        joined, _ = self.join()
+        with open(os.path.join(self.folder, "0.m3u8"), "a", encoding="ascii") as file:
+            file.write("x")
+        self.assertEqual(self.join(), (joined, 2))
+        os.remove(os.path.join(self.folder, "1.m3u8"))
+        self.assertEqual(self.join(), (joined, 2))
+
+
 NEWS = ('OPTIONS="--target 4 --preferred 3840000 --epoch 1970-01-01T00:00:00Z"\nADDRESS="127.0.0.1:8080"\nRENDITIONS="v720:video:3000000:0 en:audio:128000:22000"\n'
         'SIZES="1280x720"\nRATE="25"\nGROUP="48"\nINPUT="srt://0.0.0.0:9000?mode=listener"\nEDGE="/news"\n')
 PROGRAM = '#!/bin/sh\nfor word; do case $word in --wrong) ;; --late | /var/*) [ "$1" = serve ] || continue ;; *) continue ;; esac; echo "$1: unrecognized option $word" >&2; exit 2; done\nprintf "media 1\\nLimitAS=100M\\nMemoryMax=200M\\n"\n'
@@ -155,11 +228,25 @@ class Channels(unittest.TestCase):
         for old, new, said in (("OPTIONS", "OPTION", "OPTION: unknown key; the keys are OPTIONS"), ('EDGE="/news"', 'EDGE="/hls"', "one of the edge's own paths"),
                                ('EDGE="/news"', 'EDGE="/News"', "neither /PREFIX"), ('EDGE="/news"', 'EDGE="/news"\nSENDERS="10.0.0.1/8"', "SENDERS"),
                                ('EDGE="/news"', 'EDGE="/news"\nSTANDBY="origin:80"', "isn't IP:PORT"), ('EDGE="/news"', 'EDGE="/news"\nSTANDBY="10.0.0.2:80"', "needs a journal"), ("--target 4", "--wrong 4", "unrecognized option --wrong"),
+                               ("--target 4", "--target 4 --anew", "would empty the channel at each start"), ("--target 4", "--target 4 --base=/run/x", "--base is the service's own"), ("--target 4", "--target 4 --run a", "--run is the service's own"),
+                               ("--target 4", "--target 4 --journal=/var/lib/hls_origin/sport/channel", "is in the folder of sport"),
                                ("GROUP=\"48\"", "GROUP=\"50\"", "--preferred"), ("--target 4", "--target 4 --journal /var/lib/hls_origin/old/channel", "in the folder of old"), ("1280x720", "1280x721", "SIZES"), ('ADDRESS="127.0.0.1:8080"\n', "", "ADDRESS is missing")):
             found = self.faults(NEWS.replace(old, new))
             self.assertEqual(len(found), 1, (new, found))
             self.assertIn(said, found[0])
         self.assertIn("isn't a valid name", self.faults(NEWS, "News.conf")[0])
+
+    def test_one_fault_once(self):
+        """A wrong option is one fault, without what depends on it; another key's fault is named too."""
+        wrong = NEWS.replace("--preferred 3840000", "--wrong 3840000")
+        self.assertEqual(self.faults(wrong), ["OPTIONS, ADDRESS or RENDITIONS: unrecognized option --wrong"])
+        self.assertEqual(len(self.faults(wrong.replace('EDGE="/news"', 'EDGE="/News"'))), 2)
+
+    def test_regular_files(self):
+        path = os.path.join(self.folder, "pipe.conf")
+        os.mkfifo(path)
+        with self.assertRaisesRegex(channels.Wrong, "isn't a regular file"):
+            channels.read_values(path)
 
     def test_start(self):
         """What only a start finds, without the channel's own journal; and an address of another machine, of a channel that is served here."""
@@ -185,10 +272,16 @@ class Channels(unittest.TestCase):
 
     def test_warnings(self):
         path = self.write("news.conf", NEWS)
-        self.assertIn("passphrase", channel_checks.warnings_of(path, self.folder, 1 << 40)[0])
-        self.assertEqual(len(channel_checks.warnings_of(path, self.folder, 1 << 20)), 2)
+        self.assertIn("passphrase", channel_checks.warnings_of(path)[0])
         self.write("news.conf", NEWS.replace("mode=listener", "mode=listener&passphrase=0123456789"))
-        self.assertEqual(channel_checks.warnings_of(path, self.folder, 1 << 40), [])
+        self.assertEqual(channel_checks.warnings_of(path), [])
+
+    def test_memory(self):
+        """One warning for all channels, also for those that aren't named."""
+        paths = [self.write(f"{name}.conf", NEWS) for name in ("news", "sport", "kids")]
+        self.assertIsNone(channel_checks.memory_warning(paths, self.folder, 1 << 40))
+        for some in (paths, paths[:1]):
+            self.assertIn("the 3 channels and the edge's caches together may need 375 MiB", channel_checks.memory_warning(some, self.folder, 300 << 20) or "")
 
     def test_edge(self):
         path = self.write("channels", "# remark\nnews /news,tv.example.org 10.0.0.1:8080,10.0.0.2:8081\n")
@@ -196,11 +289,67 @@ class Channels(unittest.TestCase):
 
 
     def test_addresses(self):
-        for text in ("0.0.0.0:1", "255.249.199.99:65535", "10.0.0.1:59999", "10.0.0.1:8080"):
+        for text in ("0.0.0.0:1", "223.249.199.99:65535", "10.0.0.1:59999", "10.0.0.1:8080"):
             self.assertEqual(edge.address(text), text)
         for text in ("256.0.0.1:80", "1.2.3.4:65536", "1.2.3.4:70000", "01.2.3.4:80", "1.2.3.4:0", "1.2.3.4:080", "1.2.3:80", "1.2.3.4", "[::1]:80", "1.2.3.4:80\n"):
             with self.assertRaises(channels.Wrong, msg=text):
                 edge.address(text)
+        for text in ("127.0.0.1:8079", "127.9.9.9:8079", "0.0.0.0:8079", "169.254.169.254:80", "224.0.0.1:80"):
+            with self.assertRaises(channels.Wrong, msg=text):
+                edge.address(text)
+        self.assertEqual(edge.address("10.0.0.1:8079"), "10.0.0.1:8079")
+        self.assertIn("the edge's own", self.faults(NEWS.replace("127.0.0.1:8080", "127.0.0.1:8079"))[0])
+
+
+class Edges(unittest.TestCase):
+    """What the edge's files for nginx have."""
+
+    def setUp(self):
+        self.folder = tempfile.mkdtemp()
+        self.addCleanup(shutil.rmtree, self.folder)
+        for door in passwords.DOORS:
+            os.mkdir(os.path.join(self.folder, door))
+
+    def write(self, name, text):
+        with open(os.path.join(self.folder, name), "w", encoding="utf-8") as file:
+            file.write(text)
+
+    def test_users(self):
+        given = passwords.new_password()
+        self.write("operators/news.htpasswd", "olga:x\n" + "a" * 21 + ":x\n")
+        self.write("encoders/news.htpasswd", passwords.with_password("", "emil", given))
+        self.write("encoders/news.3.htpasswd", passwords.with_password("", "lena", given))
+        self.write("encoders/news.16.htpasswd", "x:x\n")
+        self.write("encoders/newsx.3.htpasswd", "x:x\n")
+        users = passwords.read_users(self.folder, "news")
+        self.assertEqual([user.name for user in users], ["emil", "lena", "olga"])
+        self.assertEqual([bool(user.begins) for user in users], [True, True, False])
+        self.assertTrue(base64.b64encode(f"emil:{given}".encode()).decode().startswith(users[0].begins))
+        self.assertGreaterEqual(len(base64.b64decode(users[0].begins)), len("emil:") + 6)
+        self.assertEqual(passwords.renditions_of(self.folder, "news"), [("news", "3")])
+        text = edge.generated({"news": (["/"], ["1.2.3.4:80"])}, {"news": users}, [("news", "3")], "0" * 32)
+        self.assertIn('"encoders news 3" news.3;', text)
+        self.assertIn('"news olga" olga;', text)
+        self.assertNotIn('"news emil" emil;', text)
+        self.assertEqual(edge.secret_of(text), "0" * 32)
+        self.assertNotEqual(edge.secret_of(None), edge.secret_of(None))
+
+    def test_passwords(self):
+        text = passwords.with_password("a:x\nemil:x:old\n", "emil", "abcdefgh" + "2" * 26)
+        self.assertEqual(text, "a:x\nemil:{SHA}" + re.search(r"\{SHA\}(.*):", text)[1] + ":abcdefgh\n")
+        self.assertEqual(passwords.path_of("f", "encoders", "news.15"), "f/encoders/news.15.htpasswd")
+        for door, target in (("operators", "news.1"), ("encoders", "news.16"), ("encoders", "../x"), ("encoders", "news.1.2"), ("doors", "news"), ("encoders", "news\n")):
+            with self.assertRaises(channels.Wrong, msg=target):
+                passwords.path_of("f", door, target)
+
+    def test_sizes(self):
+        with open(os.path.join(DEPLOY, "..", "edge", "hls_origin.conf"), encoding="utf-8") as file:
+            text = file.read()
+        sized = caches.sized(text, lambda cache: {"lists": 20, "recorded": 80}.get(cache, 1000) << 20)
+        self.assertEqual(re.findall(r"hls/(\w+) .*max_size=(\w+)", sized), [("lists", "12m"), ("recorded", "48m"), ("media", "450m"), ("fetched", "100m")])
+        self.assertIn("min_free=150m", sized)
+        self.assertEqual(re.sub(r"(max_size|min_free)=\w+", "", sized), re.sub(r"(max_size|min_free)=\w+", "", text))
+        self.assertLess(sum(caches.SHARES[one] for one in ("media", "fetched")) + caches.MIN_FREE, 100)
 
 
 class Commands(unittest.TestCase):
@@ -219,13 +368,13 @@ class Watching(unittest.TestCase):
         with tempfile.TemporaryDirectory() as folder:
             tool.PROMETHEUS, tool.TEXT_FILES = (os.path.join(folder, name) for name in ("prometheus", "texts"))
             values = {"ADDRESS": "0.0.0.0:8080", "STANDBY": "10.0.0.2:8080", "INPUT": "udp://127.0.0.1:9"}
-            tool.watch("news", values)
+            tool.have_watched("news", values)
             self.assertEqual(os.listdir(folder), [])
             for path in (tool.PROMETHEUS, tool.TEXT_FILES):
                 os.mkdir(path)
             for _ in range(2):
-                tool.watch("news", values)
-            tool.watch("sport", {"ADDRESS": "127.0.0.1:8081"})
+                tool.have_watched("news", values)
+            tool.have_watched("sport", {"ADDRESS": "127.0.0.1:8081"})
             targets, link = tool.watched_by("news")
             with open(targets, encoding="ascii") as file:
                 self.assertEqual(json.load(file), [{"targets": ["127.0.0.1:8080", "10.0.0.2:8080"], "labels": {"channel": "news"}}])
@@ -318,6 +467,35 @@ class Client(unittest.TestCase):
         self.replies[wish.path("certificate.txt")] = [(500, {}, b"refused NotYet\n")]
         with self.assertRaises(Failure):
             programmes.refusal_of(origins.Origin(self.address), wish)
+
+
+
+class Failures(unittest.TestCase):
+    """deploy/end_journal after starts that a signal ended, and after a wrong argument: as the service's, and in the foreground."""
+
+    def ends(self, result, status, more):
+        """What three ends in a row print, and what they call."""
+        with tempfile.TemporaryDirectory() as folder:
+            for name in ("systemctl", "systemd-run", "sleep"):
+                with open(os.path.join(folder, name), "w", encoding="utf-8") as file:
+                    file.write(f'#!/bin/sh\n[ {name} = sleep ] || echo {name} "$@" >> {folder}/calls\n')
+                os.chmod(os.path.join(folder, name), 0o755)
+            environment = {"PATH": f"{folder}:{os.environ['PATH']}", "RUNTIME_DIRECTORY": folder, "SERVICE_RESULT": result, "EXIT_STATUS": status, **more}
+            script = os.path.join(DEPLOY, "end_journal")
+            said = [subprocess.run([script, "news", "--base", "x"], env=environment, capture_output=True, text=True, check=True).stderr for _ in range(3)]
+            with contextlib.suppress(FileNotFoundError), open(os.path.join(folder, "calls"), encoding="utf-8") as file:
+                return said[-1], file.read()
+            return said[-1], ""
+
+    def test_signal(self):
+        said, calls = self.ends("signal", "ABRT", {})
+        self.assertIn("news stays down after three starts that failed (exit status ABRT)", said)
+        self.assertEqual(calls, "systemctl --no-block stop hls_origin@news\n")
+
+    def test_foreground(self):
+        said, calls = self.ends("signal", "ABRT", {"RUNNER": "foreground"})
+        self.assertIn("news has failed three times (exit status ABRT)", said)
+        self.assertEqual(calls, "")
 
 
 if __name__ == "__main__":
