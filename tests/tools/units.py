@@ -329,8 +329,8 @@ class Edges(unittest.TestCase):
         self.assertEqual(passwords.renditions_of(self.folder, "news"), [("news", "3")])
         text = edge.generated({"news": (["/"], ["1.2.3.4:80"])}, {"news": users}, [("news", "3")], "0" * 32)
         self.assertIn('"encoders news 3" news.3;', text)
-        self.assertIn('"news olga" olga;', text)
-        self.assertNotIn('"news emil" emil;', text)
+        self.assertIn(r'"~^news olga\z" olga;', text)
+        self.assertNotIn(r'"~^news emil\z" emil;', text)
         self.assertEqual(edge.secret_of(text), "0" * 32)
         self.assertNotEqual(edge.secret_of(None), edge.secret_of(None))
 
