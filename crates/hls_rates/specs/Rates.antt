@@ -1,5 +1,6 @@
 -- Rates of what is taken: a token bucket. What is taken is owed, in thousandths, and time pays it.
 use Rattle.std.specs.Prelude.{ℕ, ◌+◌, ◌-◌, ◌*◌, ◌/◌, ◌^◌, ◌≤◌, ◌↔◌, min, max, List, [], ◌∷◌}
+use Rattle.std.specs.Int.{div_ceil}
 use Rattle.hls_rates.specs.declared.rate.Rate.{Rate}
 use Rattle.hls_rates.specs.declared.meter.Meter.{Meter}
 
@@ -26,6 +27,14 @@ meter_at rate now m = record { owed = owed_after rate.per_second (now - m.paid_m
 -- the meter after an amount is taken, as far as 64 bits count it
 abbrev pub meter_with : ℕ → Meter → Meter
 meter_with amount m = record { owed = min (m.owed + min (amount * 1000) most) most; paid_ms = m.paid_ms }
+
+-- the meter, with at most twice the burst owed
+abbrev pub meter_within : Rate → Meter → Meter
+meter_within rate m = record { owed = min m.owed (min (min (rate.at_once * 1000) most * 2) most); paid_ms = m.paid_ms }
+
+-- for how many milliseconds nothing more may be taken: what is owed above the burst, divided by the rate and rounded up
+abbrev pub pause_of : Rate → Meter → ℕ
+pause_of rate m = div_ceil (m.owed - min (rate.at_once * 1000) most) rate.per_second
 
 -- the pause is over after a time just if no more than the burst is owed then
 abbrev pub IsPause : Rate → Meter → ℕ → ℕ → Type 0

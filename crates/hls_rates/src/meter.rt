@@ -1,7 +1,7 @@
 //! What was taken and isn't paid yet.
 
 ghost use Rattle.std.specs.Prelude.{◌≡◌, ◌≤◌, ◌↔◌, ℕ};
-ghost use Rattle.hls_rates.specs.Rates.{IsPause, meter_at, meter_with};
+ghost use Rattle.hls_rates.specs.Rates.{IsPause, meter_at, meter_with, meter_within, pause_of};
 
 use crate::rate::Rate;
 
@@ -50,10 +50,23 @@ impl Meter {
         }
     }
 
+    /// The meter, if it owes no more than twice the burst; else one that owes so much. What is above is forgotten, so that nothing may be
+    /// taken for at most as long as the burst takes to be paid.
+    pub fn within(self, rate: Rate) -> Meter
+        ensures { result ≡ meter_within rate self }
+    {
+        let most = rate.at_once.saturating_mul(THOUSANDTHS).saturating_mul(2);
+        Meter {
+            owed: self.owed.min(most),
+            ..self
+        }
+    }
+
     /// For how many milliseconds nothing more may be taken: the least time after which no more than the burst is owed.
     pub fn pause_ms(self, rate: Rate) -> u64
         requires { 1 ≤ rate.per_second }
-        ensures { (time : ℕ) → IsPause rate self result time }
+        ensures value { result ≡ pause_of rate self }
+        ensures time { (time : ℕ) → IsPause rate self result time }
     {
         let burst = rate.at_once.saturating_mul(THOUSANDTHS);
         self.owed.saturating_sub(burst).div_ceil(rate.per_second)

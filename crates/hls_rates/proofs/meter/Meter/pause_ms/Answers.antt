@@ -4,8 +4,8 @@ use Rattle.std.specs.Int.{div_ceil}
 use Rattle.hls_rates.proofs.meter.Meter.pause_ms.Goals as goal
 use Rattle.hls_rates.proofs.Pauses.{paid_after}
 
-pub returns : goal.returns
-returns c = λ time.
+pub returns-clause-time : goal.returns-clause-time
+returns-clause-time c = λ time.
     let owed = c.args.self.owed in
     let per = c.args.rate.per_second in
     let burst = c.args.rate.at_once * 1000 in
