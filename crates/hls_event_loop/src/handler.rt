@@ -66,8 +66,14 @@ pub trait Handler {
         ensures valid { valid self.now result };
 
     /// Handles what was read from a peer, or continues a response. Returns whether there may be more to do at once, after the
-    /// worker's other connections had their turns. A waiting connection checks its condition and its deadline here.
-    fn advance(&mut self, connection: &mut Self::Connection, peer: SocketAddr) -> bool
+    /// worker's other connections had their turns. A waiting connection checks its condition and its deadline here. `has_hung_up` says
+    /// whether the peer is known to have ended its side; what it sent before may still be unread.
+    fn advance(
+        &mut self,
+        connection: &mut Self::Connection,
+        peer: SocketAddr,
+        has_hung_up: bool,
+    ) -> bool
         requires valid { valid self.old connection.old }
         ensures becomes { becomes self.old connection.old no_traffic self.new connection.new }
         ensures needs_io { IsFalse result → needs_io connection.new }

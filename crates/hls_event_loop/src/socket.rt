@@ -42,7 +42,8 @@ pub(crate) struct Readiness {
 pub(crate) struct SocketReader<R> {
     pub reader: R,
     pub readable: bool,
-    hung_up: bool,
+    /// Whether the peer ended its side.
+    pub hung_up: bool,
     is_at_end: bool,
 }
 

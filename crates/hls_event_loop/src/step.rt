@@ -127,7 +127,7 @@ fn choose_step<H: Handler, R: Read, W: Write>(
     if let Some(end) = handler.end(connection) {
         return StepOutcome::End(end);
     }
-    if handler.advance(connection, peer) {
+    if handler.advance(connection, peer, socket.input.hung_up) {
         return StepOutcome::Yield;
     }
     if handler.is_waiting(connection) {
