@@ -8,6 +8,7 @@ mod RowSteps
 mod Joined
 mod BoxSteps
 mod FillerSteps
+mod FirstSteps
 mod SyncSteps
 mod ContiguousLaws
 mod KeptLaws

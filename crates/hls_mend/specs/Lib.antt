@@ -3,6 +3,7 @@
 pub mod Views
 pub mod Silence
 pub mod Spans
+pub mod FirstSamples
 pub mod InitSections
 pub mod MendedUnits
 pub mod Contiguous

@@ -39,7 +39,7 @@ pub record Sound : Type 0 where
 abbrev pub sound_view : sounds.Sound → Sound
 sound_view s = record { length = s.length; silent = option_map (λ f. f.now) s.silent }
 
--- how long a codec's frames are in ticks, of which there are `scale` in a second
+-- the length of a codec's frames, in ticks of a timescale
 abbrev pub frame_length : ℕ → AudioFrames → FrameLength
 frame_length scale f = record { ticks = f.samples * scale; rate = f.rate }
 

@@ -1,12 +1,13 @@
 //! Units that fill a gap, made of a unit that was recorded.
 
-ghost use Rattle.std.specs.Prelude.{◌≡◌, ◌<◌, ◌≤◌, ◌-◌, ◌^◌, replicate, option_map, option_and_then, true, IfOk};
+ghost use Rattle.std.specs.Prelude.{◌≡◌, ◌<◌, ◌≤◌, ◌-◌, ◌^◌, replicate, length, option_map, option_and_then, true, IfOk, IfSome};
 ghost use Rattle.std.specs.List.{concat};
-ghost use Rattle.hls_mend_laws.specs.Fillers.{is_span as can_be_span, held_unit, silent_sample as sample_of_silence, frames_end as end_of_frames, whole_frames, frame_count as count_of_frames, silent_samples, lasts_a_tick, are_few, can_repeat as may_repeat, silence_by, silent_unit as unit_of_silence};
+ghost use Rattle.hls_mend_laws.specs.Fillers.{is_span as can_be_span, held, held_unit, silence, silent_sample as sample_of_silence, frames_end as end_of_frames, whole_frames, frame_count as count_of_frames, silent_samples, lasts_a_tick, are_few, can_repeat as may_repeat, silence_by, silent_unit as unit_of_silence};
+ghost use Rattle.hls_mend_laws.specs.FragmentsRead.{fragment_of};
 ghost use Rattle.hls_mend_laws.specs.Retimed.{written};
-ghost use Rattle.hls_mend.specs.Views.{fragment_view};
+ghost use Rattle.hls_mend.specs.FirstSamples.{first_of, first_view};
 
-use crate::fragment::{Fragment, read_fragment};
+use crate::fragment::read_fragment;
 use crate::write::{FragmentParts, write_unit};
 use hls_media_laws::init::Init;
 use hls_mend_laws::filler::{FillerSpan, FrameLength};
@@ -23,10 +24,74 @@ fn is_span(span: FillerSpan) -> bool
     span.ticks > 0 && span.ticks < 1 << 32
 }
 
+/// What fillers are made of: the first sample of a recorded unit, and what a filler keeps of that unit. It is read once for all fillers of
+/// a gap, since a unit may have tens of thousands of samples.
+#[derive(Clone, Copy)]
+pub struct FirstSample<'a> {
+    /// The sequence number.
+    pub number: u32,
+    /// The content of the `tfhd`.
+    pub head: &'a [u8],
+    /// The first sample.
+    pub sample: Sample,
+    /// The samples' bytes, which begin with those of the first.
+    pub payload: &'a [u8],
+}
+
+/// Reads the first sample of a recorded unit. None if mending can't write the unit again.
+pub fn read_first_sample<'a>(
+    alloc: Global,
+    init: &Init,
+    unit: &'a [u8],
+) -> Result<Option<FirstSample<'a>>, AllocError>
+    ensures value { IfOk result (λ o. option_map first_view o ≡ option_and_then first_of (fragment_of init.now unit.now)) }
+    ensures within { IfOk result (λ o. IfSome o (λ first. first.sample.size ≤ length first.payload.now)) }
+{
+    let Some(fragment) = read_fragment(alloc, init, unit)? else {
+        return Ok(None);
+    };
+    if fragment.samples.is_empty() {
+        return Ok(None);
+    }
+    Ok(Some(FirstSample {
+        number: fragment.number,
+        head: fragment.head,
+        sample: fragment.samples[0],
+        payload: fragment.payload,
+    }))
+}
+
+/// A filler that holds a sample for the ticks of the span, if these fit and the sample hasn't more bytes than the filler may have.
+pub fn hold_sample(
+    alloc: Global,
+    first: FirstSample<'_>,
+    span: FillerSpan,
+) -> Result<Option<Vec<u8>>, AllocError>
+    requires { first.sample.size ≤ length first.payload.now }
+    ensures { IfOk result (λ o. option_map (λ v. v.items) o ≡ option_and_then written (held span (first_view first.entry))) }
+{
+    if !is_span(span) || first.sample.size > span.most {
+        return Ok(None);
+    }
+    let sample = Sample {
+        duration: span.ticks as u32,
+        ..first.sample
+    };
+    let parts = FragmentParts {
+        front: &[],
+        number: first.number,
+        head: first.head,
+        start: span.start,
+        samples: &[sample],
+        payload: &first.payload[..first.sample.size as usize],
+    };
+    write_unit(alloc, parts)
+}
+
 /// A filler that holds the first sample of a recorded unit for the ticks of the span: if that is a sync sample of video, the picture
 /// freezes. None if mending can't write the unit again, if the ticks are 0 or 2^32 or more, or if the sample has more bytes than the
 /// filler may have.
-#[tactic(auto, unfolding(hls_mend_laws::specs::Fillers::held_unit))]
+#[tactic(auto, unfolding(hls_mend_laws::specs::Fillers::held_unit), using(crate::proofs::FirstSteps::holds_none, crate::proofs::FirstSteps::holds_first))]
 pub fn hold_unit(
     alloc: Global,
     init: &Init,
@@ -35,29 +100,10 @@ pub fn hold_unit(
 ) -> Result<Option<Vec<u8>>, AllocError>
     ensures { IfOk result (λ o. option_map (λ v. v.items) o ≡ held_unit init.now unit.now span) }
 {
-    let Some(fragment) = read_fragment(alloc, init, unit)? else {
+    let Some(first) = read_first_sample(alloc, init, unit)? else {
         return Ok(None);
     };
-    if fragment.samples.is_empty() {
-        return Ok(None);
-    }
-    let first = fragment.samples[0];
-    if !is_span(span) || first.size > span.most {
-        return Ok(None);
-    }
-    let sample = Sample {
-        duration: span.ticks as u32,
-        ..first
-    };
-    let parts = FragmentParts {
-        front: &[],
-        number: fragment.number,
-        head: fragment.head,
-        start: span.start,
-        samples: &[sample],
-        payload: &fragment.payload[..first.size as usize],
-    };
-    write_unit(alloc, parts)
+    hold_sample(alloc, first, span)
 }
 
 /// The tick at which the first `count` frames end.
@@ -181,12 +227,12 @@ fn can_repeat(length: FrameLength, size: usize, span: FillerSpan) -> bool
 /// A filler of this frame as often as needed.
 fn repeat_over(
     alloc: Global,
-    fragment: &Fragment<'_>,
+    first: FirstSample<'_>,
     length: FrameLength,
     frame: &[u8],
     span: FillerSpan,
 ) -> Result<Option<Vec<u8>>, AllocError>
-    ensures { IfOk result (λ o. option_map (λ v. v.items) o ≡ option_and_then written (silence_by length frame.now (fragment_view fragment.now) span)) }
+    ensures { IfOk result (λ o. option_map (λ v. v.items) o ≡ option_and_then written (silence_by length frame.now (first_view first.entry) span)) }
 {
     if !can_repeat(length, frame.len(), span) {
         return Ok(None);
@@ -195,8 +241,8 @@ fn repeat_over(
     let payload = repeat_frame(alloc, frame, samples.len())?;
     let parts = FragmentParts {
         front: &[],
-        number: fragment.number,
-        head: fragment.head,
+        number: first.number,
+        head: first.head,
         start: span.start,
         samples: &samples,
         payload: &payload,
@@ -204,10 +250,28 @@ fn repeat_over(
     write_unit(alloc, parts)
 }
 
+/// A filler of a frame as often as needed for the ticks of the span: the silent frame, or else the sample.
+pub fn repeat_sample(
+    alloc: Global,
+    first: FirstSample<'_>,
+    frames: FrameLength,
+    silent: Option<&[u8]>,
+    span: FillerSpan,
+) -> Result<Option<Vec<u8>>, AllocError>
+    requires { first.sample.size ≤ length first.payload.now }
+    ensures { IfOk result (λ o. option_map (λ v. v.items) o ≡ option_and_then written (silence frames (option_map (λ frame. frame.now) silent.entry) span (first_view first.entry))) }
+{
+    let frame = match silent {
+        Some(frame) => frame,
+        None => &first.payload[..first.sample.size as usize],
+    };
+    repeat_over(alloc, first, frames, frame, span)
+}
+
 /// A filler of a frame as often as needed for the ticks of the span: the silent frame, or else the first sample of the recorded unit. Each
 /// is as long as the codec says; the last one may be shorter. None if mending can't write the unit again, if the ticks are 0 or 2^32 or
 /// more, if there were more than 65536 frames, or if they had more bytes than the filler may have.
-#[tactic(auto, unfolding(hls_mend_laws::specs::Fillers::silent_unit))]
+#[tactic(auto, unfolding(hls_mend_laws::specs::Fillers::silent_unit), using(crate::proofs::FirstSteps::repeats_none, crate::proofs::FirstSteps::repeats_first))]
 pub fn silent_unit(
     alloc: Global,
     init: &Init,
@@ -218,16 +282,8 @@ pub fn silent_unit(
 ) -> Result<Option<Vec<u8>>, AllocError>
     ensures { IfOk result (λ o. option_map (λ v. v.items) o ≡ unit_of_silence init.now unit.now length (option_map (λ frame. frame.now) silent.entry) span) }
 {
-    let Some(fragment) = read_fragment(alloc, init, unit)? else {
+    let Some(first) = read_first_sample(alloc, init, unit)? else {
         return Ok(None);
     };
-    if fragment.samples.is_empty() {
-        return Ok(None);
-    }
-    let first = fragment.samples[0];
-    let frame = match silent {
-        Some(frame) => frame,
-        None => &fragment.payload[..first.size as usize],
-    };
-    repeat_over(alloc, &fragment, length, frame, span)
+    repeat_sample(alloc, first, length, silent, span)
 }

@@ -1,11 +1,12 @@
 //! Fills gaps.
 
-ghost use Rattle.std.specs.Prelude.{◌≡◌, ◌<◌, ◌≤◌, length, slice_index_or, option_map, All, IfOk, IfSome};
+ghost use Rattle.std.specs.Prelude.{◌≡◌, ◌<◌, ◌≤◌, length, slice_index_or, option_map, Some, All, IfOk, IfSome};
 ghost use Rattle.hls_media_laws.specs.{FactLists.no_facts, IsInitOrUnit.IsUnit};
 ghost use Rattle.hls_mend.specs.MendedUnits.{declared_rate as rate_of, is_audio as is_audio_init, audio_source, filler, filler_bytes, filler_len as len_of_fillers, filler_most as most_of_filler, filler_source, filler_ticks as ticks_of_filler, fillers_from, fillers_to, last_sync, source_by, source_of, source_view, span_filler, span_for as span_of};
 ghost use Rattle.hls_mend.specs.Silence.{sound_view};
+ghost use Rattle.hls_mend.specs.FirstSamples.{first_bytes, first_in, first_view};
 
-use crate::fillers::{hold_unit, silent_unit};
+use crate::fillers::{FirstSample, hold_sample, read_first_sample, repeat_sample};
 use crate::made_units::read_span;
 use crate::mended::ReadUnit;
 use crate::silence::{Sound, find_sound};
@@ -193,15 +194,16 @@ fn span_for(init: &Init, bandwidth: u64, start: u64, ticks: u64) -> FillerSpan
 /// The bytes of a filler, if one can be made.
 fn make_bytes(
     alloc: Global,
-    init: &Init,
     source: FillerSource<'_>,
+    first: FirstSample<'_>,
     span: FillerSpan,
 ) -> Result<Option<Vec<u8>>, AllocError>
-    ensures { IfOk result (λ o. option_map (λ v. v.items) o ≡ filler_bytes init.now (source_view source.entry).unit (source_view source.entry).sound span) }
+    requires within { first.sample.size ≤ length first.payload.now }
+    ensures { IfOk result (λ o. option_map (λ v. v.items) o ≡ first_bytes (first_view first.entry) (source_view source.entry).sound span) }
 {
     match source.sound {
-        Some(sound) => silent_unit(alloc, init, source.unit, sound.length, sound.silent, span),
-        None => hold_unit(alloc, init, source.unit, span),
+        Some(sound) => repeat_sample(alloc, first, sound.length, sound.silent, span),
+        None => hold_sample(alloc, first, span),
     }
 }
 
@@ -210,27 +212,34 @@ fn make_filler(
     alloc: Global,
     init: &Init,
     source: FillerSource<'_>,
+    first: FirstSample<'_>,
     start: u64,
     ticks: u64,
 ) -> Result<Option<ReadUnit>, AllocError>
+    requires within { first.sample.size ≤ length first.payload.now }
+    requires read { Some (first_view first) ≡ first_in init.now (source_view source).unit }
     ensures value { IfOk result (λ o. o ≡ filler init.now (source_view source.entry) start ticks) }
     ensures valid { IfOk result (λ o. IfSome o (λ u. IsUnit init.now u.bytes u.facts)) }
 {
     let span = span_for(init, source.bandwidth, start, ticks);
-    let made = make_bytes(alloc, init, source, span)?;
+    let made = make_bytes(alloc, source, first, span)?;
     let end = u128::from(start) + u128::from(ticks);
     read_span(init, made, start, end)
 }
 
-/// Fillers of this length from a tick to another. None follow one that can't be made, and there are at most 64.
+/// Fillers of this length from a tick to another, by the first sample of their source. None follow one that can't be made, and there are at
+/// most 64.
 fn make_fillers(
     alloc: Global,
     init: &Init,
     source: FillerSource<'_>,
+    first: FirstSample<'_>,
     len: u64,
     start: u64,
     end: u64,
 ) -> Result<Vec<ReadUnit>, AllocError>
+    requires within { first.sample.size ≤ length first.payload.now }
+    requires read { Some (first_view first) ≡ first_in init.now (source_view source).unit }
     ensures value { IfOk result (λ v. v.items ≡ fillers_from 64 init.now (source_view source.entry) len start end) }
     ensures valid { IfOk result (λ v. All (λ u. IsUnit init.now u.bytes u.facts) v.items) }
 {
@@ -242,7 +251,7 @@ fn make_fillers(
             return Ok(fillers);
         }
         let ticks = filler_ticks(len, end - next);
-        let Some(filler) = make_filler(alloc, init, source, next, ticks)? else {
+        let Some(filler) = make_filler(alloc, init, source, first, next, ticks)? else {
             return Ok(fillers);
         };
         fillers.push(filler)?;
@@ -250,6 +259,25 @@ fn make_fillers(
         left -= 1;
     }
     Ok(fillers)
+}
+
+/// Fillers of this length from a tick to another, of which the source is read once.
+#[tactic(auto, using(crate::proofs::FirstSteps::unread_fills_nothing))]
+fn fill_from(
+    alloc: Global,
+    init: &Init,
+    source: FillerSource<'_>,
+    len: u64,
+    start: u64,
+    end: u64,
+) -> Result<Vec<ReadUnit>, AllocError>
+    ensures value { IfOk result (λ v. v.items ≡ fillers_from 64 init.now (source_view source.entry) len start end) }
+    ensures valid { IfOk result (λ v. All (λ u. IsUnit init.now u.bytes u.facts) v.items) }
+{
+    match read_first_sample(alloc, init, source.unit)? {
+        Some(first) => make_fillers(alloc, init, source, first, len, start, end),
+        None => Ok(Vec::new(alloc)),
+    }
 }
 
 /// The fillers of a gap from the end of a rendition with this declared bit rate to a unit. Of audio each repeats the silent frame, or else
@@ -270,7 +298,7 @@ pub fn fill_gap(
     };
     let start = recording.last_end();
     let len = filler_len(facts.duration, facts.start.saturating_sub(start));
-    make_fillers(alloc, init, source, len, start, facts.start)
+    fill_from(alloc, init, source, len, start, facts.start)
 }
 
 /// A filler of a rendition with this declared bit rate, from `start` for the given number of ticks. None if the rendition has no unit to
@@ -291,5 +319,8 @@ pub fn make_span_filler(
     let Some(source) = find_source(init, recording, bandwidth) else {
         return Ok(None);
     };
-    make_filler(alloc, init, source, start, ticks)
+    let Some(first) = read_first_sample(alloc, init, source.unit)? else {
+        return Ok(None);
+    };
+    make_filler(alloc, init, source, first, start, ticks)
 }

@@ -66,7 +66,7 @@ pub fn silent_frame(init: &[u8]) -> Option<&'static [u8]>
     find_frame_of_codec(format.codec, format.kind)
 }
 
-/// How long a codec's frames are in ticks, of which there are `scale` in a second.
+/// The length of a codec's frames, in ticks of a timescale.
 fn frame_length(scale: u32, frames: AudioFrames) -> FrameLength
     ensures { result ≡ length_of_frames scale frames }
 {
