@@ -55,22 +55,22 @@ pub record IsLastTurn (plans : List PlanRow) (at : ℕ) : Type 0 where
   pub latest : (k : ℕ) → k < length plans → turn_at plans k ≤ turn_at plans at
   pub last : (k : ℕ) → at < k → k < length plans → turn_at plans k < turn_at plans at
 
--- all plans are of earlier turns than this one
-abbrev pub AreEarlier : List PlanRow → ℕ → Type 0
-AreEarlier plans turn = (k : ℕ) → k < length plans → turn_at plans k < turn
+-- no plan is of a later turn than this one
+abbrev pub NoneIsLater : List PlanRow → ℕ → Type 0
+NoneIsLater plans turn = (k : ℕ) → k < length plans → turn_at plans k ≤ turn
 
--- the last plan of the latest turn is evicted by one of this turn, which isn't later
+-- the last plan of the latest turn is evicted by one of this turn, which is earlier
 pub record IsEvicted (before : List PlanRow) (turn : ℕ) (after : List PlanRow) : Type 0 where
   pub at : ℕ
   pub is : IsLastTurn before at
-  pub late : turn ≤ turn_at before at
+  pub later : turn < turn_at before at
   pub removed : after ≡ take at before ++ drop (at + 1) before
 
--- there is room for one more plan of this turn, perhaps after another one was evicted; or there is none, and all are of earlier turns
+-- there is room for one more plan of this turn, perhaps after one of a later turn was evicted; or there is none, and none is of a later turn
 abbrev pub MakesRoom : List PlanRow → ℕ → List PlanRow → Bool → Type 0
 MakesRoom before turn after true =
     ((length before < plan_limit) × (after ≡ before)) ⊎ ((plan_limit ≤ length before) × IsEvicted before turn after)
-MakesRoom before turn after false = (plan_limit ≤ length before) × (after ≡ before) × AreEarlier before turn
+MakesRoom before turn after false = (plan_limit ≤ length before) × (after ≡ before) × NoneIsLater before turn
 
 -- a plan is inserted where it belongs by its turn
 pub record IsInserted (room : List PlanRow) (turn : ℕ) (row : PlanRow) (after : List PlanRow) : Type 0 where
@@ -78,9 +78,9 @@ pub record IsInserted (room : List PlanRow) (turn : ℕ) (row : PlanRow) (after 
   pub turns : IsTurn room turn at
   pub is : after ≡ take at room ++ row ∷ drop at room
 
--- a plan of this client isn't added: as many as may wait for it, or as many wait or run as may and all are of earlier turns
+-- a plan of this client isn't added: as many as may wait for it, or as many wait or run as may and none is of a later turn
 abbrev pub IsRefused : ℕ → List PlanRow → Type 0
-IsRefused client plans = (most_waiting client ≤ count_waiting client plans) ⊎ ((plan_limit ≤ length plans) × AreEarlier plans (next_turn client plans))
+IsRefused client plans = (most_waiting client ≤ count_waiting client plans) ⊎ ((plan_limit ≤ length plans) × NoneIsLater plans (next_turn client plans))
 
 -- a plan waits for this client, with this state and this request
 abbrev pub IsRowFor : State → Request → ℕ → PlanRow → Type 0
@@ -102,6 +102,8 @@ AddsPlan s request client before (Ready texts) after = ⊥
 AddsPlan s request client before Unfinished after = IsAdded s request client before after
 AddsPlan s request client before Missing after = (after ≡ before) × IsRefused client before
 
--- a plan of the first turn comes after at most one plan of each client
+-- a plan of the first turn comes after at most one plan of each client; and a client that has a plan still has one after another plan was evicted
 abbrev pub FirstTurnsAreFair : Type 0
-FirstTurnsAreFair = (plans : List PlanRow) (at client : ℕ) → IsTurn plans 1 at → count_waiting client (take at plans) ≤ 1
+FirstTurnsAreFair =
+    ((plans : List PlanRow) (at client : ℕ) → IsTurn plans 1 at → count_waiting client (take at plans) ≤ 1)
+    × ((before after : List PlanRow) (turn client : ℕ) → 1 ≤ turn → IsEvicted before turn after → 1 ≤ count_waiting client before → 1 ≤ count_waiting client after)

@@ -2,7 +2,8 @@
 use Rattle.std.specs.Prelude.{◌≡◌, ◌≢◌, ◌⊎◌, ◌<◌, ℕ, ◌+◌, All, Bool, true, false, List, ◌++◌, length, take, drop, Option, Some, None, slice_get, slice_set}
 use Rattle.hls_catchup.specs.declared.jobs.job.Work.{Work}
 use Rattle.hls_catchup.specs.declared.request.Request.{Request}
-use Rattle.hls_jobs.specs.PlanTurns.{IsRefused}
+use Rattle.hls_core_laws.specs.State.{State}
+use Rattle.hls_jobs.specs.PlanTurns.{AddsPlan, IsRefused}
 use Rattle.hls_jobs.specs.ProgrammeTexts.{IsReplyFor}
 use Rattle.hls_jobs.specs.declared.plans.FoundPlan.{FoundPlan}
 use Rattle.hls_jobs.specs.declared.plans.FoundPlan.TheVariants.{Ready, Unfinished, Missing}
@@ -86,6 +87,14 @@ pub record HasAddedPlan (request : Request) (client : ℕ) (found : FoundPlan) :
   pub plans : List PlanRow
   pub is : IsFoundPlan plans request found
   pub full : found ≡ Missing → IsRefused client plans
+
+-- the call met some table and left another one, which has this for the request: they are the same, or a plan from this state was to be added for
+-- the client, in its next turn
+pub record HasPlannedFrom (s : State) (request : Request) (client : ℕ) (found : FoundPlan) : Type 0 where
+  pub before : List PlanRow
+  pub after : List PlanRow
+  pub is : IsFoundPlan after request found
+  pub adds : (after ≡ before) ⊎ AddsPlan s request client before found after
 
 -- the job among what is to be done next
 abbrev pub job_in : Option NextWork → Option Work

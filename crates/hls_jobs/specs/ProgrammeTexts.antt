@@ -1,5 +1,5 @@
 -- The texts of a programme by its address, which were made of one reply.
-use Rattle.std.specs.{Prelude.{◌≡◌, ℕ, List, [], ◌∷◌, length, map, Option, Some, None, option_map, slice_get}, declared.sync.Arc.Arc}
+use Rattle.std.specs.{Prelude.{◌≡◌, ℕ, List, [], ◌∷◌, length, Option, Some, None, slice_get}, declared.sync.Arc.Arc}
 use Rattle.hls_catchup.specs.declared.request.Request.{Request}
 use Rattle.hls_catchup.specs.Replies.{ReplyData, IsRightReply}
 use Rattle.hls_catchup.specs.Jobs.Files.{certificate_file}

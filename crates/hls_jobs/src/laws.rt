@@ -18,7 +18,8 @@ pub fn programme_answers_stay()
     answers_stay();
 }
 
-/// A client's first plan comes after at most one plan of each other client.
+/// A client's first plan comes after at most one plan of each other client. A client that has a plan still has one after another client's plan
+/// has evicted one.
 pub fn first_turns_are_fair()
     ensures { FirstTurnsAreFair }
 {}

@@ -80,7 +80,7 @@ fn find_last_turn(plans: &[PlanRow]) -> usize
     last
 }
 
-/// Makes room for a plan of a turn if as many wait or run as may: the last one of the latest turn is evicted, unless that is earlier.
+/// Makes room for a plan of a turn if as many wait or run as may: the last one of the latest turn is evicted, if that turn is later.
 /// Returns whether there is room.
 pub fn make_room_for_turn(plans: &mut Vec<PlanRow>, turn: usize) -> bool
     ensures { MakesRoom plans.old.items turn plans.new.items result }
@@ -89,7 +89,7 @@ pub fn make_room_for_turn(plans: &mut Vec<PlanRow>, turn: usize) -> bool
         return true;
     }
     let last = find_last_turn(plans);
-    if turn_at(plans, last) < turn {
+    if turn_at(plans, last) <= turn {
         return false;
     }
     plans.remove(last);

@@ -188,7 +188,7 @@ impl PlanTable {
     }
 
     /// Returns what the table has for a request, after a plan was added if there was neither a plan nor texts. Clients take turns: none is
-    /// added while too many wait for this client, or as many wait or run as may and no other client has as many turns.
+    /// added while too many wait for this client, or as many wait or run as may and none of them is of a later turn.
     pub fn find_or_add(
         &mut self,
         snapshot: &Arc<Snapshot>,

@@ -20,8 +20,8 @@ use std::alloc::{AllocError, Global};
 use std::marker::Model;
 use std::sync::Arc;
 
-/// The texts of a programme: a master playlist and a playlist for each rendition if it has a plan, and its certificate. A clause sees
-/// the reply of which they were made; they don't hold it, so they keep no media alive.
+/// The texts of a programme: a master playlist and a playlist for each rendition if it has a plan, and its certificate. They were made
+/// from a reply, which a clause sees; they don't hold it, so they keep no media alive.
 #[derive(Drop)]
 pub struct ProgrammeTexts {
     request: Request,

@@ -1,11 +1,11 @@
-//! The job table and the plans of programmes behind a lock, with a condition variable for loops that wait for work.
+//! The job table and the plans of programmes, protected by a lock, with a condition variable on which planners wait for work.
 
 ghost use Rattle.std.specs.Prelude.{◌≡◌, All, IfOk, IfSome, None, true, false};
 ghost use Rattle.hls_catchup.specs.Jobs.Changes.{Finishes, Gets, Removes};
 ghost use Rattle.hls_catchup.specs.Jobs.Tables.{IsJobTable};
 ghost use Rattle.hls_jobs.specs.LastUses.{RemovesUnused};
 ghost use Rattle.hls_jobs.specs.Model.{without_returned};
-ghost use Rattle.hls_jobs.specs.Plans.{HasAddedPlan, HasFoundPlan, is_waiting_plan, job_in};
+ghost use Rattle.hls_jobs.specs.Plans.{HasAddedPlan, HasFoundPlan, HasPlannedFrom, is_waiting_plan, job_in};
 ghost use Rattle.hls_jobs.specs.Rows.{HasWaiting};
 ghost use Rattle.hls_catchup.specs.Jobs.States.{IsRightJob};
 ghost use Rattle.hls_catchup.specs.Jobs.Shared.{HasAdded, HasCounted, HasFinished, HasGot, HasRemoved, HasTaken};
@@ -249,7 +249,8 @@ impl Jobs {
         request: Request,
         client: u64,
     ) -> Result<FoundPlan, AllocError>
-        ensures { IfOk result (HasAddedPlan request client) }
+        ensures added { IfOk result (HasAddedPlan request client) }
+        ensures adds { IfOk result (HasPlannedFrom snapshot.now.value request client) }
     {
         let found = self
             .inner
