@@ -1,5 +1,5 @@
 -- The definitions of a journal's files: calls on a file, what is known of a log, batches of entries, media to write, what a follower writes,
--- what a start knows, logs in older formats, the numbers of segments, and when a new log is begun.
+-- what a start knows and takes, logs in older formats, the numbers of segments, what counts for a new log, and when it is begun.
 pub mod Calls
 pub mod LogFiles
 pub mod Batches
@@ -9,3 +9,5 @@ pub mod StartRecords
 pub mod OlderFormats
 pub mod Numbers
 pub mod RenewalPolicy
+pub mod LongLogs
+pub mod Starts

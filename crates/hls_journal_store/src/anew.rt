@@ -1,6 +1,6 @@
 //! Begins a new channel after the one that a folder has.
 
-ghost use Rattle.std.specs.Prelude.{◌≤◌, length};
+ghost use Rattle.std.specs.Prelude.{◌≡◌, ◌≤◌, length, true, IfOk, IfSome};
 
 use crate::batch::{RENDITIONS, into_bytes};
 use crate::begun_log::begin_records;
@@ -19,7 +19,7 @@ use hls_core::config::Config;
 use hls_journal::{ChannelHeader, JournalFault, find_ids, is_closed, make_channel_body};
 use hls_journal_log::{LogFault, read_disk, read_log};
 use std::alloc::Global;
-use std::fs::{self, File};
+use std::fs::File;
 use std::rt::Files;
 
 /// Where the record of a channel has the numbers of its base, of eight bytes each.
@@ -66,12 +66,16 @@ pub fn begin_anew<R: Files<File = File>>(
     config: &Config,
     new_run: [u8; 16],
     least: u64,
-) -> Result<Option<Base>, OpenFault> {
+) -> Result<Option<Base>, OpenFault>
+    ensures served { IfOk result (λ begun. IfSome begun (λ base. config.now.base.segments ≤ base.segments)) }
+    ensures run { IfOk result (λ begun. IfSome begun (λ base. base.run ≡ new_run)) }
+    ensures marked { IfOk result (λ begun. IfSome begun (λ base. base.marked ≡ true)) }
+{
     let paths = StorePaths::new(alloc, folder)?;
     if !is_there(rt, &paths.log) {
         return Ok(None);
     }
-    let _lock = paths.lock_file(rt)?;
+    let lock = paths.lock_file(rt)?;
     let old = read_old(rt, alloc, &paths)?;
     let index = find_kept_units(alloc, &old.bodies)?;
     let served = config.base().segments();
@@ -92,7 +96,7 @@ pub fn begin_anew<R: Files<File = File>>(
         base,
         find_ids(&old.bodies).max(1),
     )?;
-    clear_folder(rt, alloc, &paths, &old, renditions)?;
+    clear_folder(rt, alloc, &paths, &lock, &old, renditions)?;
     Ok(Some(base))
 }
 
@@ -110,7 +114,7 @@ fn read_old<R: Files<File = File>>(
     };
     let last = last_start(&bodies);
     let may_lack = bodies.is_empty()
-        || is_there(rt, &paths.marker)
+        || paths.is_marked(rt)
         || last.may_lack(&read_boot_id(rt), is_closed(&bodies));
     Ok(OldChannel { bodies, may_lack })
 }
@@ -122,7 +126,11 @@ fn make_base(
     run: [u8; 16],
     least: u64,
     renditions: usize,
-) -> Option<Base> {
+) -> Option<Base>
+    ensures served { IfSome result (λ base. least ≤ base.segments) }
+    ensures run { IfSome result (λ base. base.run ≡ run) }
+    ensures marked { IfSome result (λ base. base.marked ≡ true) }
+{
     let old = find_numbers(bodies);
     let more = index.count(0).saturating_add(1);
     let starts = MediaStarts::of_log(bodies);
@@ -198,6 +206,7 @@ fn clear_folder<R: Files<File = File>>(
     rt: &R,
     alloc: Global,
     paths: &StorePaths,
+    lock: &File,
     old: &OldChannel,
     renditions: usize,
 ) -> Result<(), OpenFault> {
@@ -206,10 +215,8 @@ fn clear_folder<R: Files<File = File>>(
         let folder = format!(in alloc; "{}/{rendition}", paths.media)?;
         let _ = rt.remove_dir_all(alloc, &folder);
     }
-    if is_there(rt, &paths.marker)
-        && let Err(error) = fs::rename(rt, &paths.marker, &paths.spare)
-    {
-        return Err(open_fault(StorePart::Marker, error));
+    match paths.remove_mark(rt, lock) {
+        Ok(()) => Ok(()),
+        Err(error) => Err(open_fault(StorePart::Marker, error)),
     }
-    Ok(())
 }

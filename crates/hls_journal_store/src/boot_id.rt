@@ -29,7 +29,7 @@ pub(crate) fn is_same_boot(a: &[u8; 16], b: &[u8; 16]) -> bool
     *a == *b && *a != [0; 16]
 }
 
-/// Returns the bytes that hexadecimal digits stand for; other characters are passed over.
+/// Returns the bytes of hexadecimal digits; other characters are passed over.
 fn parse_boot_id(text: &[u8]) -> [u8; 16] {
     let mut id = [0u8; 16];
     let mut digits: usize = 0;

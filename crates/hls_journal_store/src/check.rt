@@ -1,5 +1,8 @@
 //! Checks whether a start would take the journal in a folder.
 
+ghost use Rattle.std.specs.Prelude.{OnOk};
+ghost use Rattle.hls_journal_store.specs.Starts.{IsOfChannel};
+
 use crate::boot_id::read_boot_id;
 use crate::fault::{OpenFault, StorePart, open_fault};
 use crate::inspect::read_file;
@@ -85,11 +88,13 @@ fn check_log<R: Files<File = File> + Threads + Sync>(
     paths: &StorePaths,
     config: Config,
     read: &ReadLog,
-) -> Result<(), OpenFault> {
+) -> Result<(), OpenFault>
+    ensures { OnOk result (IsOfChannel config read.now.content.bodies.items) }
+{
     if is_served(rt, paths)? {
         return check_channel(alloc, &config, &read.content.bodies);
     }
-    if is_there(rt, &paths.marker) {
+    if paths.is_marked(rt) {
         return Err(OpenFault::Marked);
     }
     open_to_write(rt, &paths.log, StorePart::Log)?;
@@ -100,7 +105,9 @@ fn check_log<R: Files<File = File> + Threads + Sync>(
 }
 
 /// Compares the channel of a log with a configuration.
-fn check_channel(alloc: Global, config: &Config, bodies: &[Bytes]) -> Result<(), OpenFault> {
+fn check_channel(alloc: Global, config: &Config, bodies: &[Bytes]) -> Result<(), OpenFault>
+    ensures { OnOk result (IsOfChannel config.now bodies.now) }
+{
     if let Some(first) = bodies.first() {
         read_channel(alloc, first, config)?;
     }

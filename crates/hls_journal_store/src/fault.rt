@@ -1,5 +1,8 @@
 //! Why a journal can't be opened or continued.
 
+ghost use Rattle.std.specs.Prelude.{◌≡◌};
+ghost use Rattle.hls_journal_store.specs.Starts.{part_name};
+
 use hls_journal::JournalFault;
 use hls_journal_log::LogFault;
 use sqlite_disk::is_no_room;
@@ -164,7 +167,9 @@ impl From<StoreFault> for OpenFault {
 
 impl StorePart {
     /// Returns the part as it is printed.
-    pub fn text(self) -> &'static str {
+    pub fn text(self) -> &'static str
+        ensures { result.now ≡ part_name self }
+    {
         match self {
             StorePart::Folder => "folder",
             StorePart::Lock => "lock",

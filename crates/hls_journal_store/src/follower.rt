@@ -19,6 +19,7 @@ use sqlite_disk::Disk;
 use std::alloc::Global;
 use std::fs::{self, File};
 use std::io;
+use std::os::unix::fs::FileExt;
 use std::rt::Files;
 use std::thread::{Threads, join};
 
@@ -36,6 +37,9 @@ const GROWTH: u64 = 3;
 
 /// The least bytes of media whose write is worth a thread.
 const THREAD_LEN: u64 = 524288;
+
+/// What a locked file has if its folder is marked.
+const MARK: &[u8] = b"behind\n";
 
 /// Writes the journal of a channel into its folder, which it has locked.
 ///
@@ -203,9 +207,19 @@ impl<D: Disk + Drop> Follower<D> {
         note_end(&mut self.ended, outcome)
     }
 
-    /// Marks the folder: players may see more of the channel than the log has. A start refuses a marked folder. Fails if the folder was
-    /// moved or removed.
+    /// Marks the folder: players may see more of the channel than the log has. A start refuses a marked folder. The mark is in the locked
+    /// file, which is open, whatever became of its name and owner; and it is a name in the folder, which needs no room on the disk. Fails
+    /// if both fail.
     pub fn mark<R: Files<File = File>>(&self, rt: &R) -> io::Result<()> {
+        let written = write_mark(&self.lock);
+        match self.name_mark(rt) {
+            Ok(()) => Ok(()),
+            Err(_) => written,
+        }
+    }
+
+    /// Gives the folder the marker's name. Fails if the folder was moved or removed.
+    fn name_mark<R: Files<File = File>>(&self, rt: &R) -> io::Result<()> {
         self.paths.find_lock(rt, &self.lock)?;
         // a rename needs no room on the disk
         if fs::rename(rt, &self.paths.spare, &self.paths.marker).is_err() {
@@ -213,6 +227,12 @@ impl<D: Disk + Drop> Follower<D> {
         }
         open_and_sync(rt, &self.paths.folder)
     }
+}
+
+/// Writes the mark into the locked file, durably.
+fn write_mark(lock: &File) -> io::Result<()> {
+    lock.write_all_at(MARK, 0)?;
+    lock.sync_all()
 }
 
 /// Makes the batch of at most `most` entries from a position on; it has some if there are any.

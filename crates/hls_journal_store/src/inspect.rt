@@ -11,7 +11,7 @@ use crate::media_track::{media_path, open_and_sync};
 use crate::older_format::{check_format, check_text};
 use crate::records::{append_closed, append_point, sync_log};
 use crate::start_record::{StartRecord, find_start};
-use crate::store_paths::{StorePaths, is_there};
+use crate::store_paths::{StorePaths, open_regular};
 use crate::sync_mode::SyncMode;
 use bytes::Bytes;
 use hls_journal::is_closed;
@@ -62,7 +62,7 @@ pub fn inspect_store<R: Files<File = File>>(
     let last = last_start(&content.bodies);
     let was_closed = is_closed(&content.bodies);
     let mut report = StoreReport {
-        is_marked: is_there(rt, &paths.marker),
+        is_marked: paths.is_marked(rt),
         records: content.bodies.len(),
         log_bytes: content.len,
         dropped: text.len().saturating_sub(content.len),
@@ -121,7 +121,7 @@ pub(crate) fn read_file<R: Files<File = File>>(
 }
 
 fn open_to_read<R: Files<File = File>>(rt: &R, path: &str) -> io::Result<(File, usize)> {
-    let file = File::open(rt, path)?;
+    let file = open_regular(rt, path)?;
     let len = file.metadata()?.len() as usize;
     Ok((file, len))
 }

@@ -1,9 +1,9 @@
 //! The files of a journal: a folder that holds a channel's log and media.
 //!
-//! `lock` is locked while a process has the folder. `log` has the records. `media/R/NNNNN` has the bytes from place NNNNN times 64 MiB on
-//! of rendition R. The place of a byte is its offset in the resource, its init section and all units, and the bytes that precede by the
-//! channel's base. `behind` marks a folder that players have seen more than; until then it is `spare`. `log.new` is a log that is about
-//! to replace `log`.
+//! `lock` is locked while a process has the folder; it is empty, unless players have seen more of the channel than the folder has. `log`
+//! has the records. `media/R/NNNNN` has the bytes from place NNNNN times 64 MiB on of rendition R. The place of a byte is its offset in the
+//! resource, its init section and all units, and the bytes that precede by the channel's base. `behind` is another mark that players have
+//! seen more; until then it is `spare`. `log.new` is a log that is about to replace `log`.
 //!
 //! [`open_store`] restores the channel of a folder, [`Follower::follow`] writes what it has grown by since, and [`renew_store`] replaces
 //! its log.

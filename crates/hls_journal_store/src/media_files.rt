@@ -124,7 +124,7 @@ impl MediaFiles {
         self.remove_trimmed(rt, alloc)
     }
 
-    /// Whether a file has nothing but trimmed media.
+    /// Whether a file has only trimmed media.
     fn has_trimmed(&self) -> bool {
         self.tracks
             .iter()

@@ -4,6 +4,7 @@ ghost use Rattle.std.specs.Prelude.{◌≡◌};
 
 use crate::fault::{StoreFault, StorePart, sync_fault, write_fault};
 use crate::media_span::find_span;
+use crate::store_paths::check_regular;
 use std::alloc::{AllocError, Global};
 use std::fs::{self, File};
 use std::io::{self, ErrorKind};
@@ -301,7 +302,11 @@ fn sync_folder<R: Files<File = File>>(rt: &R, folder: &str) -> Result<(), StoreF
     }
 }
 
-/// Syncs a file or a folder.
+/// Syncs a regular file or a folder. Anything else is refused.
 pub(crate) fn open_and_sync<R: Files<File = File>>(rt: &R, path: &str) -> io::Result<()> {
+    let found = fs::metadata(rt, path)?;
+    if !found.is_dir() {
+        check_regular(&found)?;
+    }
     File::open(rt, path)?.sync_all()
 }

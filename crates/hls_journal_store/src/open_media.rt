@@ -9,6 +9,7 @@ use crate::media_read::read_pieces;
 use crate::media_span::{MediaSpan, find_span};
 use crate::media_starts::MediaStarts;
 use crate::media_track::media_path;
+use crate::store_paths::open_regular;
 use hls_boxes::kinds::UNIT_LIMIT;
 use hls_journal_laws::stored_media::MediaPiece;
 use std::alloc::{AllocError, Global};
@@ -73,7 +74,7 @@ impl<'a> OpenMedia<'a> {
             return Ok(());
         }
         let folder = format!(in alloc; "{}/{rendition}", self.folder)?;
-        let opened = File::open(rt, media_path(alloc, &folder, number)?);
+        let opened = open_regular(rt, &media_path(alloc, &folder, number)?);
         self.files.push(OpenFile {
             rendition,
             number,

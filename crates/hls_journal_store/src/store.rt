@@ -2,6 +2,7 @@
 
 ghost use Rattle.std.specs.Prelude.{◌≤◌, ◌<◌, OnErr, OnOk};
 ghost use Rattle.hls_journal_store.specs.Numbers.{next_segment};
+ghost use Rattle.hls_journal_store.specs.Starts.{IsOfChannel};
 
 use crate::batch::{Position, find_position, into_bytes};
 use crate::begun_log::{RESERVED_IDS, begin_records};
@@ -220,7 +221,9 @@ pub(crate) fn find_channel<R: Files<File = File> + Threads + Sync>(
     config: Config,
     read: &ReadLog,
     own: StartRecord,
-) -> Result<LogChannel, OpenFault> {
+) -> Result<LogChannel, OpenFault>
+    ensures channel { OnOk result (IsOfChannel config read.now.content.bodies.items) }
+{
     if read.content.bodies.is_empty() {
         check_no_media(rt, alloc, media, config.renditions().len())?;
         return new_channel(alloc, config, read, own.boot);

@@ -4,8 +4,8 @@ use crate::fault::{OpenFault, StorePart, open_fault};
 use crate::log_file::{LogFile, settle_log_file};
 use crate::media_track::open_and_sync;
 use std::alloc::{AllocError, Global};
-use std::fs::{self, File, TryLockError};
-use std::io;
+use std::fs::{self, File, Metadata, TryLockError};
+use std::io::{self, ErrorKind};
 use std::os::unix::fs::MetadataExt;
 use std::rt::Files;
 
@@ -39,7 +39,7 @@ impl StorePaths {
     /// Locks the folder, which is made if it is missing. The lock is held until the file is dropped. A marked folder is refused.
     pub(crate) fn lock<R: Files<File = File>>(&self, rt: &R) -> Result<File, OpenFault> {
         let lock = self.lock_file(rt)?;
-        if is_there(rt, &self.marker) {
+        if self.is_marked(rt) {
             return Err(OpenFault::Marked);
         }
         match open_or_create(rt, &self.spare) {
@@ -48,7 +48,7 @@ impl StorePaths {
         }
     }
 
-    /// The same, also of a marked folder.
+    /// The same, also of a marked folder. The file that is locked is empty, unless the folder is marked in it.
     pub(crate) fn lock_file<R: Files<File = File>>(&self, rt: &R) -> Result<File, OpenFault> {
         if let Err(error) = fs::create_dir_all(rt, &self.media) {
             return Err(open_fault(StorePart::Folder, error));
@@ -64,13 +64,27 @@ impl StorePaths {
         }
     }
 
+    /// Whether the folder is marked: by the marker's name, or in the locked file.
+    pub(crate) fn is_marked<R: Files<File = File>>(&self, rt: &R) -> bool {
+        is_there(rt, &self.marker) || has_bytes(rt, &self.lock)
+    }
+
+    /// Takes the mark of a folder away, whose locked file this is.
+    pub(crate) fn remove_mark<R: Files<File = File>>(&self, rt: &R, lock: &File) -> io::Result<()> {
+        lock.set_len(0)?;
+        if is_there(rt, &self.marker) {
+            fs::rename(rt, &self.marker, &self.spare)?;
+        }
+        Ok(())
+    }
+
     /// Fails if the locked file isn't in the folder any more: what has this path now may be another process's.
     pub(crate) fn find_lock<R: Files<File = File>>(&self, rt: &R, lock: &File) -> io::Result<()> {
         let (mine, found) = (lock.metadata()?, fs::symlink_metadata(rt, &self.lock)?);
         if mine.dev() == found.dev() && mine.ino() == found.ino() {
             Ok(())
         } else {
-            Err(io::ErrorKind::NotFound.into())
+            Err(ErrorKind::NotFound.into())
         }
     }
 
@@ -84,6 +98,7 @@ impl StorePaths {
 
     fn settle_log<R: Files<File = File>>(&self, rt: &R) -> io::Result<LogFile> {
         let file = open_or_create(rt, &self.log)?;
+        check_regular(&file.metadata()?)?;
         let folder = File::open(rt, &self.folder)?;
         settle_log_file(file, &folder)
     }
@@ -115,10 +130,33 @@ fn open_or_create<R: Files<File = File>>(rt: &R, path: &str) -> io::Result<File>
     options.open(rt, path)
 }
 
+/// Opens a regular file to read it. Anything else is refused before it is opened: to open a FIFO waits for a writer.
+pub(crate) fn open_regular<R: Files<File = File>>(rt: &R, path: &str) -> io::Result<File> {
+    check_regular(&fs::metadata(rt, path)?)?;
+    File::open(rt, path)
+}
+
+/// Refuses what isn't a regular file.
+pub(crate) fn check_regular(found: &Metadata) -> io::Result<()> {
+    if found.is_file() {
+        Ok(())
+    } else {
+        Err(ErrorKind::InvalidData.into())
+    }
+}
+
+/// Whether a file has bytes. One that can't be looked up has none.
+fn has_bytes<R: Files<File = File>>(rt: &R, path: &str) -> bool {
+    match fs::symlink_metadata(rt, path) {
+        Ok(found) => found.is_file() && found.len() > 0,
+        Err(_) => false,
+    }
+}
+
 /// Whether something has this name. What can't be looked up counts as there.
 pub(crate) fn is_there<R: Files<File = File>>(rt: &R, path: &str) -> bool {
     match fs::symlink_metadata(rt, path) {
         Ok(_) => true,
-        Err(error) => error.kind() != io::ErrorKind::NotFound,
+        Err(error) => error.kind() != ErrorKind::NotFound,
     }
 }

@@ -1,0 +1,10 @@
+-- Before each round, the amount is that of the renditions so far.
+use Rattle.std.proofs.Common.{◌≡◌, ◌≤◌, ◌*◌, ◌+◌}
+use Rattle.hls_blocks.specs.Numbered.{list_limit}
+use Rattle.hls_journal_store.specs.LongLogs.{bytes_of, entries_of, first_kept}
+use Rattle.hls_journal_store.proofs.long_log.Amount.kept.Given as goal
+
+abbrev pub invariant-loop-rendition : goal.invariant-loop-rendition
+invariant-loop-rendition l =
+    (l.kept.entries ≡ entries_of l.snapshot (first_kept l.snapshot) l.rendition) × (l.kept.bytes ≡ bytes_of l.snapshot (first_kept l.snapshot) l.rendition)
+    × (l.kept.entries ≤ l.rendition * (list_limit + 2))
