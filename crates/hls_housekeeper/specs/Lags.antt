@@ -2,7 +2,7 @@
 use Rattle.std.specs.Prelude.{◌≡◌, ℕ, ◌-◌, ◌*◌, ◌<◌, Bool, true, false, not, ◌&&◌, nat_lt, max, min, is_some, Option, Some, None, List, slice_get, fold}
 use Rattle.hls_housekeeper.specs.declared.lag.{RenditionProgress.RenditionProgress, MediaExtent.MediaExtent, LateRendition.LateRendition}
 
--- the later of an end and that of a rendition's media, if it has any
+-- the later of an end and a rendition's last sync sample, if it has one
 abbrev pub later_end : ℕ → Option MediaExtent → ℕ
 later_end end None = end
 later_end end (Some extent) = max extent.until end
@@ -12,7 +12,7 @@ abbrev pub earlier_begin : ℕ → Option MediaExtent → ℕ
 earlier_begin begin None = begin
 earlier_begin begin (Some extent) = min extent.from begin
 
--- the latest end of all renditions that have begun, in microseconds; 0 if none has
+-- the latest sync sample of all renditions that have begun, in microseconds; 0 if none has
 abbrev pub last_end : List RenditionProgress → ℕ
 last_end all_progress = fold (λ end progress. later_end end progress.extent) 0 all_progress
 
@@ -20,7 +20,7 @@ last_end all_progress = fold (λ end progress. later_end end progress.extent) 0 
 abbrev pub first_begin : ℕ → List RenditionProgress → ℕ
 first_begin end all_progress = fold (λ begin progress. earlier_begin begin progress.extent) end all_progress
 
--- how far a rendition's media end before the latest end; if it hasn't begun, everything that the others have
+-- how far a rendition's last sync sample is before the latest one; if it hasn't begun, everything that the others have
 abbrev pub lag_between : ℕ → ℕ → Option MediaExtent → ℕ
 lag_between begin end None = end - begin
 lag_between begin end (Some extent) = end - extent.until
@@ -29,7 +29,7 @@ lag_between begin end (Some extent) = end - extent.until
 abbrev pub lag_us : List RenditionProgress → RenditionProgress → ℕ
 lag_us all_progress progress = lag_between (first_begin (last_end all_progress) all_progress) (last_end all_progress) progress.extent
 
--- a rendition that is not finished lags more than three target durations, given the earliest begin and the latest end
+-- a rendition that is not finished lags more than three target durations, given the earliest begin and the latest sync sample
 abbrev pub is_late_between : ℕ → ℕ → ℕ → RenditionProgress → Bool
 is_late_between target begin end progress = not progress.finished && nat_lt (3000000 * target) (lag_between begin end progress.extent)
 

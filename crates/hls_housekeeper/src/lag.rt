@@ -3,12 +3,12 @@
 ghost use Rattle.std.specs.Prelude.{◌≡◌, ◌≤◌, IfSome, IfNone, length};
 ghost use Rattle.hls_housekeeper.specs.Lags.{IsFirstLate, NoneLate, lag_between, earlier_begin, first_begin, last_end, is_late_between, later_end};
 
-/// The time range that a rendition has recorded, in microseconds of the channel's time.
+/// The time range in which a rendition has sync samples, in microseconds of the channel's time.
 #[derive(Clone, Copy)]
 pub struct MediaExtent {
     /// The start of its first unit.
     pub from: u64,
-    /// The end of its last unit that begins with a sync sample.
+    /// The start of its last unit that begins with a sync sample: each later place waits for another one.
     pub until: u64,
 }
 
@@ -31,7 +31,7 @@ pub struct LateRendition {
     pub lag: u64,
 }
 
-/// Returns the later of `end` and the rendition's end.
+/// Returns the later of `end` and the rendition's last sync sample.
 fn max_end(end: u64, extent: Option<MediaExtent>) -> u64
     ensures { result ≡ later_end end extent }
 {
@@ -51,7 +51,7 @@ fn min_begin(begin: u64, extent: Option<MediaExtent>) -> u64
     }
 }
 
-/// Returns the latest end of all renditions; 0 where none has begun.
+/// Returns the latest sync sample of all renditions; 0 where none has begun.
 fn latest_end(all_progress: &[RenditionProgress]) -> u64
     ensures { result ≡ last_end all_progress.now }
 {
@@ -69,7 +69,7 @@ fn earliest_begin(all_progress: &[RenditionProgress], end: u64) -> u64
         .fold(end, |begin, progress| min_begin(begin, progress.extent))
 }
 
-/// Returns how far a rendition lags the others, whose media extends from `begin` to `end`.
+/// Returns how far a rendition lags the others, whose sync samples are from `begin` to `end`.
 fn lag_us(progress: RenditionProgress, begin: u64, end: u64) -> u64
     ensures { result ≡ lag_between begin end progress.extent }
 {

@@ -28,12 +28,12 @@ pub fn channel_time(snapshot: &Snapshot) -> u64 {
     }
 }
 
-/// Returns the time range of a recording.
+/// Returns the time range of a recording: up to its last sync sample, since a unit that lasts for hours brings no later place.
 fn find_extent(recording: &Recording) -> Option<MediaExtent> {
     let count = recording.count();
     let first = recording.facts(0)?;
     let until = match find_sync_before(recording, count) {
-        Some(facts) => facts.end_us,
+        Some(facts) => facts.start_us,
         None => first.start_us,
     };
     Some(MediaExtent {
