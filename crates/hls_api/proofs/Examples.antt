@@ -1,7 +1,8 @@
 -- The definitions, computed on rows that tests don't cover, or cover only within longer ones.
-use Rattle.std.{proofs.Common.{◌≡◌, pos, false, [], ◌∷◌, ◌++◌, Some, None, Ok, refl, codes}, specs.Fmt.digits}
+use Rattle.std.{proofs.Common.{◌≡◌, pos, false, true, [], ◌∷◌, ◌++◌, Some, None, Ok, refl, codes}, specs.Fmt.digits}
 use Rattle.hls_text.specs.Digits.{number_of_digits}
 use Rattle.hls_api.specs.{declared.catchup_query.TimePoint.TheVariants.Instant, Queries.catchup_params_of, Routes.route_of}
+use Rattle.hls_api.specs.Jumps.{ahead_by, counted_start, is_ahead_by}
 use Rattle.hls_api.specs.{JobResponses.{file_answer, resource_answer, job_answer}, Responses.{answer_text, whole_range}}
 use Rattle.hls_http.specs.declared.range_spec.RangeSpec.TheVariants as ranges
 use Rattle.hls_catchup.specs.declared.jobs.job.Job.TheVariants as told
@@ -39,3 +40,18 @@ by_the_clock = refl
 trimmed : whole_range (Some 1 ∷ None ∷ []) ≡ None
 unfolding whole_range
 trimmed = refl
+
+-- a unit from 8 to 26 s, of which at most 4 s count, is by its end more than 10 s ahead of an end at 8 s; one to 22 s isn't
+long_unit : is_ahead_by 10000000 (Some 8000000) (counted_start 4000000 (record { start = 8; duration = 18; scale = 1; start_us = 8000000; end_us = 26000000; sync = true; len = 100 })) ≡ true
+long_unit = refl
+
+unit_at_the_limit : is_ahead_by 10000000 (Some 8000000) (counted_start 4000000 (record { start = 8; duration = 14; scale = 1; start_us = 8000000; end_us = 22000000; sync = true; len = 100 })) ≡ false
+unit_at_the_limit = refl
+
+-- a unit of 4 s counts from its start
+short_unit : counted_start 4000000 (record { start = 8; duration = 4; scale = 1; start_us = 8000000; end_us = 12000000; sync = true; len = 100 }) ≡ 8000000
+short_unit = refl
+
+-- three samples of 2^32 - 1 ticks of 90000 a second are 39.8 hours, and count from 4 s before their end
+hours_of_a_unit : ahead_by (Some 8000000) (counted_start 4000000 (record { start = 720000; duration = 12884901885; scale = 90000; start_us = 8000000; end_us = 143173576500; sync = true; len = 132 })) ≡ 143161576500
+hours_of_a_unit = refl

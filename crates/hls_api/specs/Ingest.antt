@@ -10,7 +10,7 @@ use Rattle.hls_media_laws.specs.IsInitOrUnit.{IsInit, IsUnit}
 use Rattle.hls_core_laws.specs.declared.{event.Event.TheVariants.{Begin, Accept}, refusal.Refusal.TheVariants.{NoInit, Overlap, Memory}}
 use Rattle.hls_http.specs.{declared.framing.BodyFraming.TheVariants.Length, Bodies.{IsBroken, IsOpen}}
 use Rattle.hls_api.specs.{declared.ingest.IngestCounts.IngestCounts, declared.encoder_readings.EncoderReadings.EncoderReadings}
-use Rattle.hls_api.specs.{Acts.{Act, AtMostOne, IsFailedSubmit, IsLook, RecordsLook, RecordsReading, LooksAndFailsToSubmit, RecordsSubmit}, GapLimits.settings_for, Jumps.{is_accepted_by, is_ahead_in}}
+use Rattle.hls_api.specs.{Acts.{Act, AtMostOne, IsFailedSubmit, IsLook, RecordsLook, RecordsReading, LooksAndFailsToSubmit, RecordsSubmit}, GapLimits.settings_for, Jumps.{is_accepted_unit, may_be_ahead}}
 use Rattle.hls_api.specs.Types.{StreamFault, Refusal, State, Done, BodyFraming, BodyEnd, IngestStop, IngestTarget}
 use Rattle.hls_record.specs.RecordingData.{RecordingData}
 use Rattle.hls_mend.specs.InitSections.{is_same_to_decoders}
@@ -181,11 +181,13 @@ mended_for settings bandwidth init u (Some rec) = mended_unit settings bandwidth
 abbrev pub mended_in : MendSettings → ℕ → State → InitData → ReadUnit → Mended
 mended_in settings r s init u = mended_for (settings_for settings s r u.facts.start_us) (declared_rate s.config.renditions r) init u (recording_of s r)
 
--- whether a unit may be submitted, by a state: what is known of the encoders is read for one that is ahead of the channel, and for no other
+-- whether a unit may be submitted, by a state: what is known of the encoders is read for one that may be ahead of the channel, by its start
+-- or its end, and for no other
 abbrev pub MaySubmit : MendSettings → ℕ → State → Facts → List Act → List Act → Bool → Type 0
 MaySubmit settings r s f before after may =
-    ((is_ahead_in settings.fill_us s r f.start_us ≡ false) × (may ≡ true) × (after ≡ before))
-    ⊎ ((is_ahead_in settings.fill_us s r f.start_us ≡ true) × ((readings : EncoderReadings) × RecordsReading before readings after × (may ≡ is_accepted_by s r readings)))
+    ((may_be_ahead settings.fill_us s r f ≡ false) × (may ≡ true) × (after ≡ before))
+    ⊎ ((may_be_ahead settings.fill_us s r f ≡ true)
+    × ((readings : EncoderReadings) × RecordsReading before readings after × (may ≡ is_accepted_unit settings.fill_us s r f readings)))
 
 -- the state is looked at, and by it a unit may be submitted as mending makes it
 abbrev pub DecidesUnit : MendSettings → ℕ → InitData → ReadUnit → List Act → Mended → List Act → Type 0

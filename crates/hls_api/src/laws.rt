@@ -2,7 +2,7 @@
 
 ghost use Rattle.hls_api.specs.Laws.{AllowNamesMethods, JobFilesAreRight, JobLinesAreRight, RequestsAreRead};
 ghost use Rattle.hls_api.specs.PathAnswers.{ListedInitsAreAnswered, ListedPathsAreAnswered};
-ghost use Rattle.hls_api.specs.Jumps.{AllJumpIsAccepted, OneClockIsRefused};
+ghost use Rattle.hls_api.specs.Jumps.{AheadIsRead, AllJumpIsAccepted, LongUnitsAreAhead, OneClockIsRefused, ShortUnitsCountFromStart};
 ghost use Rattle.hls_api.specs.ActLinks.{ActsAreLater, ActsExtendLinks, LinkedStatesFollow, LinksStay};
 
 /// Every reply of a session to a request for a job's file has a file of the right reply of some state to some request, or says that
@@ -55,4 +55,13 @@ pub fn listed_paths_are_answered()
 pub fn one_clock_is_refused()
     ensures refused { OneClockIsRefused }
     ensures accepted { AllJumpIsAccepted }
+{}
+
+/// A unit that lasts for longer than the target, and than an encoder may be silent for, is also ahead by its end; any other by its start
+/// alone. The encoders are read for each that is ahead.
+#[tactic(auto, using(crate::proofs::JumpSteps::short_units_count_from_start, crate::proofs::JumpSteps::long_units_are_ahead, crate::proofs::JumpSteps::ahead_is_read))]
+pub fn long_units_are_ahead()
+    ensures short { ShortUnitsCountFromStart }
+    ensures long { LongUnitsAreAhead }
+    ensures read { AheadIsRead }
 {}
