@@ -111,7 +111,7 @@ pub fn submit<K: Keeper>(keeper: &mut K, acts: &mut ActLog, event: Event) -> Res
     done
 }
 
-/// Reads what is known of the encoders, for a unit that starts so far after the channel's end, and notes it.
+/// Reads what is known of the encoders, for a unit that is so far ahead of the channel's end, and notes it.
 pub fn read_encoders<K: Keeper>(keeper: &mut K, acts: &mut ActLog, ahead_us: u64) -> EncoderReadings
     ensures reads { RecordsReading acts.old result acts.new }
     ensures act_steps { ActsExtend K.other_actors (K.known keeper.old) acts.old (K.known keeper.new) acts.new }

@@ -219,8 +219,8 @@ impl Connection {
     }
 
     /// Answers what was received, until there are bytes to send, more input is needed, a response waits, or the connection has ended. It
-    /// pauses after 1024 steps, and after each part of a response that is made in parts. Returns whether there may be more to do after the
-    /// others' turns.
+    /// pauses after 1024 steps, before an encoder's body, and after each part of a response that is made in parts. Returns whether there may
+    /// be more to do after the others' turns.
     ///
     /// `now` is in milliseconds of a monotonic clock. Without it no response waits: each that would is answered at once.
     pub fn advance<K: Keeper, O: Observer>(

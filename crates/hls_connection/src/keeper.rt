@@ -112,7 +112,7 @@ pub trait Keeper {
     fn job_count(&self) -> usize
         ensures { HasCounted result };
 
-    /// Returns what is known of the renditions' encoders now, for a unit that starts so far after the channel's end, in
+    /// Returns what is known of the renditions' encoders now, for a unit that is so far ahead of the channel's end, in
     /// microseconds. No contract covers it.
     fn read_encoders(&mut self, ahead_us: u64) -> EncoderReadings
         ensures { known self.new ≡ knowledge_after (known self.old) (ReadEncoders result) };

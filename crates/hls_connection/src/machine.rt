@@ -154,6 +154,14 @@ impl ConnectionMachine {
         matches!(self.state, ConnectionState::Receive(_))
     }
 
+    /// Whether it receives an encoder's body.
+    fn is_ingesting(&self) -> bool {
+        match &self.state {
+            ConnectionState::Receive(receiving) => receiving.is_encoders(),
+            _ => false,
+        }
+    }
+
     /// Receives some of a body, where nothing waits to be sent. Returns whether there may be more to do at once.
     fn step_body<K: Keeper, O: Observer>(
         &mut self,
@@ -277,8 +285,8 @@ impl ConnectionMachine {
         self.step_other(input, keeper.alloc(), observer)
     }
 
-    /// Makes steps until it is idle or blocked, its response waits, or other connections have their turn. Returns whether there may be more
-    /// to do at once. Without a time no response waits.
+    /// Makes steps until it is idle or blocked, its response waits, an encoder's body begins, or other connections have their turn. Returns
+    /// whether there may be more to do at once. Without a time no response waits.
     pub fn advance<K: Keeper, O: Observer>(
         &mut self,
         input: &mut InputBuffer,
@@ -298,8 +306,10 @@ impl ConnectionMachine {
             return self.step(input, keeper, now, observer);
         }
         for _ in 0..MOST_STEPS {
+            let was_receiving = self.is_receiving();
             let more = self.step(input, keeper, now, observer);
-            if !more || matches!(self.state, ConnectionState::Write(_)) {
+            let begins = !was_receiving && self.is_ingesting();
+            if !more || begins || matches!(self.state, ConnectionState::Write(_)) {
                 return more;
             }
         }

@@ -11,7 +11,7 @@ use crate::act_log::{look, read_encoders, submit};
 use crate::ingest_sink::{IngestSink, IngestState};
 use crate::keeper::Keeper;
 use bytes::Bytes;
-use hls_api::encoder_readings::{ahead_us, is_ahead, is_jump_accepted};
+use hls_api::encoder_readings::{ahead_us, is_accepted, may_be_ahead};
 use hls_api::gap_limit::settings_for;
 use hls_api::ingest::IngestCounts;
 use hls_boxes::Part;
@@ -124,8 +124,8 @@ impl<K: Keeper> IngestSink<K> {
         self.take_init(taken, keeper, chosen)
     }
 
-    /// Whether a unit may be submitted, by the state that was looked at. One that is ahead of the channel may if the other renditions' encoders
-    /// are ahead or away.
+    /// Whether a unit may be submitted, by the state that was looked at. One that is ahead of the channel, by its start or its end, may if the
+    /// other renditions' encoders are ahead or away.
     fn may_submit(
         &self,
         settings: MendSettings,
@@ -141,12 +141,12 @@ impl<K: Keeper> IngestSink<K> {
         ensures same { progress_of taken.new ≡ with_acts (progress_of taken.old) taken.new.acts }
     {
         let rendition = self.encoder.rendition;
-        if !is_ahead(settings.fill_us, state, rendition, facts.start_us) {
+        if !may_be_ahead(settings.fill_us, state, rendition, facts) {
             return true;
         }
-        let ahead = ahead_us(state, rendition, facts.start_us);
+        let ahead = ahead_us(state, rendition, facts);
         let readings = read_encoders(keeper, &mut taken.acts, ahead);
-        is_jump_accepted(state, rendition, &readings)
+        is_accepted(settings.fill_us, state, rendition, facts, &readings)
     }
 
     /// What mending makes of a unit in a state.
@@ -199,7 +199,7 @@ impl<K: Keeper> IngestSink<K> {
         let Ok(state) = look(keeper, &mut taken.acts) else {
             return Err(FeedFault::Memory);
         };
-        // a unit that is ahead is submitted as it was sent, so no bytes are made that aren't used
+        // of a unit whose start is ahead no bytes are made; of one whose end alone is, they are made and not used
         let mended = self.mend_in(settings, taken, keeper, &state, unit)?;
         if self.may_submit(settings, taken, keeper, &state, facts) {
             Ok(mended)

@@ -203,6 +203,11 @@ impl ReceivingBody {
         }
     }
 
+    /// Whether it is an encoder's.
+    pub fn is_encoders(&self) -> bool {
+        matches!(self.target, BodyTarget::Encoder { .. })
+    }
+
     /// What the connection waits for while it receives the body.
     pub fn status(&self) -> ConnectionStage
         ensures { result ≡ status_into self.now.target }

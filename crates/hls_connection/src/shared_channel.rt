@@ -29,7 +29,7 @@ pub struct SharedChannel<'a> {
 const MILLISECOND: u64 = 1000;
 
 impl<'a> SharedChannel<'a> {
-    /// Returns what is known of the encoders at a moment of the clock, in milliseconds, for a unit that starts so far after the
+    /// Returns what is known of the encoders at a moment of the clock, in milliseconds, for a unit that is so far ahead of the
     /// channel's end, in microseconds. The contract states nothing: with one, the body isn't checked again at each call.
     pub fn read_encoders(&self, now_ms: u64, ahead_us: u64) -> EncoderReadings
         ensures { result ≡ result }

@@ -118,7 +118,12 @@ impl<'a> Handler for EchoHandler<'a> {
         }
     }
 
-    fn advance(&mut self, connection: &mut EchoConnection, _peer: SocketAddr) -> bool {
+    fn advance(
+        &mut self,
+        connection: &mut EchoConnection,
+        _peer: SocketAddr,
+        _has_hung_up: bool,
+    ) -> bool {
         if self.acts < u64::MAX {
             self.acts += 1;
         }
