@@ -7,7 +7,7 @@ ghost use Rattle.hls_connection.specs.Histories.{new_history};
 ghost use Rattle.hls_connection.specs.Connections.{IsBetweenParts, IsStatus, IsIdleOrBlocked, KeeperSuits, Waits, WantsRead, history, stage, steps_left};
 ghost use Rattle.hls_server.specs.{HistoryGrowth.{serves_on, serves_nothing}, HandlerConnections.{HasStage, IsHeld, ServesHeld, socket_end, unsent}, SendGates.{Covers, unless_held}};
 
-use crate::body_lanes::{BodyLanes, BodyShare, BodyTurn};
+use crate::body_lanes::BodyLanes;
 use crate::durability::Durability;
 use crate::log_lines::refusal_name;
 use crate::logged_connection::{AccessRecord, LoggedConnection};
@@ -26,6 +26,7 @@ use hls_housekeeper::{DisplayName, LogThrottle, log_failed_accept, may_log};
 use hls_http::response_parts::{Status, out_of_memory_text};
 use hls_http::{Method, SessionEnd};
 use hls_metrics::measurements::{add, subtract};
+use hls_rates::{BodyShare, BodyTurn};
 use hls_settings::Settings;
 use hls_time::monotonic_ms;
 use std::alloc::Global;
@@ -184,7 +185,8 @@ impl<'a, R: Wait> ServerHandler<'a, R> {
         }
     }
 
-    /// Takes what a turn received of encoders' bodies: of the body that was received before, and of one that is received now.
+    /// Takes what a turn received of encoders' bodies: of the body that was received before, and of one that is received now. A body that is
+    /// over waits for nothing.
     fn take_bodies(
         &self,
         share: &mut BodyShare,
@@ -196,12 +198,13 @@ impl<'a, R: Wait> ServerHandler<'a, R> {
         let mut earlier = before.map_or(0, count_parts);
         if let Some(ended) = client.ingested.get() {
             self.take_body(share, ended, earlier, false, now_ms);
+            self.leave_lane(share, now_ms);
             earlier = 0;
         }
         if let Some(report) = after {
             self.take_body(share, report, earlier, true, now_ms);
         }
-        share.forget_received();
+        share.received = 0;
     }
 
     /// Takes what a turn received of a body that had some parts before. A body that waits for the place that it leaves is woken.
@@ -224,13 +227,20 @@ impl<'a, R: Wait> ServerHandler<'a, R> {
         }
     }
 
-    /// Whether a connection's body isn't read at this moment.
-    fn is_paused(&self, share: &mut BodyShare, now_ms: u64) -> bool {
-        self.lanes.is_paused(self.rt, share, now_ms)
+    /// Whether an encoder's body, if one is received, waits before it is read. A body that waits for a place that it leaves is woken.
+    fn is_paused(&self, share: &mut BodyShare, body: Option<IngestReport>, now_ms: u64) -> bool {
+        if body.is_none() {
+            return false;
+        }
+        let (is_held, is_wanted) = self.lanes.holds(self.rt, share, now_ms);
+        if is_wanted {
+            self.worker_loads.wake_waiting();
+        }
+        is_held
     }
 
-    /// Frees the place of a connection that is given up.
-    fn leave_place(&self, share: &BodyShare, now_ms: u64) {
+    /// Frees what a body has that is over, or whose connection is given up. A body that waits for its place is woken.
+    fn leave_lane(&self, share: &mut BodyShare, now_ms: u64) {
         if self.lanes.leave(self.rt, share, now_ms) {
             self.worker_loads.wake_waiting();
         }
@@ -268,6 +278,13 @@ impl<'a, R: Wait> ServerHandler<'a, R> {
             &measurements.filled_fragments,
             counts.filled.saturating_sub(filled),
         );
+    }
+}
+
+/// Counts bytes that were read of a connection's body.
+fn count_read(share: &mut BodyShare, read: &io::Result<usize>) {
+    if let Ok(count) = read {
+        share.count_read(*count as u64);
     }
 }
 
@@ -334,7 +351,7 @@ impl<'a, R: Wait + Clock + Eprint> ServerHandler<'a, R> {
             return;
         }
         let renditions = self.settings.config.renditions();
-        if let Some(rendition) = renditions.get(share.rendition())
+        if let Some(rendition) = renditions.get(share.rendition)
             && may_log(&self.throttle.slowed_body, now_ms)
         {
             log_slowed_body(self.rt, DisplayName(&rendition.name));
@@ -420,11 +437,21 @@ impl<'a, R: Wait + Clock + Eprint> Handler for ServerHandler<'a, R> {
         }
     }
 
-    fn advance(&mut self, logged: &mut LoggedConnection, peer: SocketAddr) -> bool {
+    fn advance(
+        &mut self,
+        logged: &mut LoggedConnection,
+        peer: SocketAddr,
+        has_hung_up: bool,
+    ) -> bool {
         suits_is_stable();
+        let started_ms = monotonic_ms(self.rt);
+        let before = logged.connection.ingest_progress();
+        if has_hung_up {
+            logged.share.go_last();
+        }
+        logged.gate.is_paused = self.is_paused(&mut logged.share, before, started_ms);
         if logged.is_held() {
             logged.gate.durable = self.durability.read();
-            logged.gate.is_paused = self.is_paused(&mut logged.share, monotonic_ms(self.rt));
             if logged.is_held() {
                 return false;
             }
@@ -433,17 +460,15 @@ impl<'a, R: Wait + Clock + Eprint> Handler for ServerHandler<'a, R> {
             }
         }
         let client = self.observer(peer);
-        let started_ms = monotonic_ms(self.rt);
         self.handle.now_ms = started_ms;
         let waited = logged.connection.is_waiting();
-        let before = logged.connection.ingest_progress();
         self.note_time(started_ms);
         let now = self.time_to_wait(logged, started_ms);
         let more = logged.connection.advance(&mut self.handle, now, &client);
         let after = logged.connection.ingest_progress();
         self.set_gate(&mut logged.gate, is_exempt(&client), after.is_some());
         self.take_bodies(&mut logged.share, before, &client, after, started_ms);
-        logged.gate.is_paused = self.is_paused(&mut logged.share, started_ms);
+        logged.gate.is_paused = self.is_paused(&mut logged.share, after, started_ms);
         self.log_slowed(logged.gate.is_paused, &logged.share, started_ms);
         self.count_waiting(waited, logged.connection.is_waiting());
         self.note_units(before, &client, after, started_ms);
@@ -457,7 +482,7 @@ impl<'a, R: Wait + Clock + Eprint> Handler for ServerHandler<'a, R> {
     fn read<S: Read>(&self, logged: &mut LoggedConnection, reader: &mut S) -> io::Result<usize> {
         let read = logged.connection.read_from(reader);
         self.count_received(&read);
-        logged.share.count_read(&read);
+        count_read(&mut logged.share, &read);
         read
     }
 
@@ -516,7 +541,8 @@ impl<'a, R: Wait + Clock + Eprint> Handler for ServerHandler<'a, R> {
 
     fn abandon(&self, logged: &LoggedConnection, peer: SocketAddr) {
         self.count_waiting(logged.connection.is_waiting(), false);
-        self.leave_place(&logged.share, monotonic_ms(self.rt));
+        let mut share = logged.share;
+        self.leave_lane(&mut share, monotonic_ms(self.rt));
         logged.connection.report_read_failure(&self.observer(peer));
         if let Some(access) = &logged.access {
             access.log(self.rt, monotonic_ms(self.rt), false);

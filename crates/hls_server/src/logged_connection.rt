@@ -4,11 +4,11 @@ ghost use Rattle.std.specs.Prelude.{◌≡◌};
 ghost use Rattle.hls_connection.specs.Connections.{history};
 ghost use Rattle.hls_server.specs.SendGates.{holds_back};
 
-use crate::body_lanes::BodyShare;
 use crate::log_lines::AccessLine;
 use crate::send_gate::SendGate;
 use hls_connection::connection::Connection;
 use hls_housekeeper::log_line;
+use hls_rates::BodyShare;
 use std::io::Eprint;
 
 /// A request that is logged once its response was taken.
