@@ -1,16 +1,17 @@
 """What a restart with a channel's file costs: whether the channel in its journal continues, or an empty one begins."""
 import os
 import re
-import shutil
 import subprocess
 from typing import NamedTuple
 
 from .certificates import PROGRAM
 from .channels import option
+from .failures import Failure, run
 from .services import arguments_of, read_units
 
 STATE, RUN = "/var/lib/hls_origin", "/run/hls_origin"
-PATIENCE = 60               # seconds that the program may take to read a journal
+SCRIPTS = os.path.dirname(os.path.dirname(os.path.abspath(__file__)))      # those of the service
+PATIENCE = 300              # seconds that the program may take to read a journal
 LOST = re.compile(r"(?P<why>.*); (?P<seconds>\d+) s would be lost")
 
 
@@ -42,17 +43,21 @@ def journal_now(name: str) -> str | None:
 
 def compare(name: str, arguments: list[str]) -> Comparison | None:
     """Compares a start with these arguments with the journal that they name; None if the program can't compare them. The base
-    has the numbers that players have seen. One of other renditions isn't comparable."""
+    has the numbers that players have seen. One of other renditions isn't comparable. Fails if the program gives no answer."""
     base = os.path.join(RUN, name + ".base")
     for words in [["--base", base, *arguments]] * os.path.exists(base) + [arguments]:
         try:
             done = subprocess.run([PROGRAM, "journal", "--check", *words], stdin=subprocess.DEVNULL, capture_output=True, text=True, errors="replace", timeout=PATIENCE)
-        except (OSError, subprocess.TimeoutExpired):
-            return None
+        except OSError as fault:
+            raise Failure(f"{name}: {PROGRAM} can't be run: {fault.strerror}, so what a restart would cost isn't known: nothing was changed") from fault
+        except subprocess.TimeoutExpired as fault:
+            raise Failure(f"{name}: the journal wasn't read within {PATIENCE} s, so what a restart would cost isn't known: nothing was changed; type: {' '.join(fault.cmd)}") from fault
         if done.returncode == 0 and (found := re.search(r"^continues (\d+) s$", done.stdout, re.M)):
             return Comparison(True, "", int(found[1]))
         if done.returncode == 1 and (lost := LOST.search(done.stdout)):
             return Comparison(False, lost["why"], int(lost["seconds"]))
+        if done.returncode < 0:
+            raise Failure(f"{name}: signal {-done.returncode} ended {PROGRAM}, so what a restart would cost isn't known: nothing was changed; type: {' '.join(done.args)}")
     return None
 
 
@@ -84,14 +89,7 @@ def cost_of(name: str, values: dict[str, str]) -> str | None:
 
 
 def set_aside(folder: str) -> str:
-    """Renames the journal of a channel that was stopped, so that no start continues it, as prepare_journal does. Returns its new name. What is
-    renamed or removed may be a link of the service's user, and isn't followed."""
-    aside, before = folder + ".aside", folder + ".aside.1"
-    if os.path.lexists(aside):
-        if os.path.islink(before):
-            os.remove(before)
-        elif os.path.lexists(before):
-            shutil.rmtree(before)
-        os.rename(aside, before)
-    os.rename(folder, aside)
-    return aside
+    """Renames the journal of a channel that was stopped, so that no start continues it. Returns its new name."""
+    parent, name = os.path.split(folder)
+    run("env", f"STATE_DIRECTORY={parent}", os.path.join(SCRIPTS, "as_owner"), os.path.join(SCRIPTS, "set_aside"), name)
+    return folder + ".aside"

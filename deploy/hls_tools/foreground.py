@@ -1,6 +1,7 @@
 """Runs a channel's origin in the foreground, for a container image, or under another init than systemd: what its service's unit,
 hls_origin@.service, runs before a start, at the start and after an end, so that both do the same. Only the Exec lines and the environment
-of the unit are read; its sandbox isn't. As root the steps run as root, and the origin as the owner of the channel's state directory.
+of the unit are read; its sandbox isn't. As root the steps run as root, and the origin as the owner of the channel's state directory, or as
+nobody if there is none; never as root.
 """
 import contextlib
 import os
@@ -88,21 +89,25 @@ class Foreground:
         self.environment = self.read_environment()
 
     def make_state(self) -> tuple[int, int] | None:
-        """Makes the state directory, if there is none. Returns its owner, if this process is root and its owner isn't."""
+        """Makes the state directory, if there is none. Returns the user and the group that the origin runs as, if this process is root."""
         is_root = os.geteuid() == 0
-        if not os.path.isdir(self.state):
-            # without one, an origin whose file has no --journal works
-            with contextlib.suppress(OSError):
-                os.makedirs(self.state, 0o700)
-                if is_root:
-                    os.chown(self.state, NOBODY, NOBODY)
-        if not is_root or not os.path.isdir(self.state):
+        # without one, an origin whose file has no --journal works
+        with contextlib.suppress(OSError):
+            os.makedirs(self.state, 0o700, exist_ok=True)
+            # an empty one may be a volume that was just made
+            if is_root and os.stat(self.state).st_uid == 0 and not os.listdir(self.state):
+                os.chown(self.state, NOBODY, NOBODY)
+        if not is_root:
             return None
+        if not os.path.isdir(self.state):
+            return NOBODY, NOBODY
         if os.path.realpath(self.state).startswith(PRIVATE):
             raise Failure(f"{self.state} is in {PRIVATE}, which systemd opens to its own service alone: type systemctl start hls_origin@{self.name}, or "
                           f"once it is disabled: rm {STATE}; mv {PRIVATE}hls_origin {STATE}")
         found = os.stat(self.state)
-        return (found.st_uid, found.st_gid) if found.st_uid else None
+        if not found.st_uid:
+            raise Failure(f"{self.state} is root's, and an origin doesn't run as root: type chown -R nobody:nogroup {self.state}")
+        return found.st_uid, found.st_gid
 
     def read_environment(self) -> dict[str, str]:
         """Returns the environment of the next start: the unit's, the channel's file, and the arguments that are for one start only."""

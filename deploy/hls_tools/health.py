@@ -32,7 +32,7 @@ MEMORY = 0.05               # share of the machine's memory that must be availab
 CACHES, LEAST = "/var/lib/nginx/hls", 16 << 20      # the edge's caches, and the bytes that must be free there
 LISTS = 1 << 20             # bytes of a live list or of the metrics
 # Kinds of faults, the one first that is to be corrected first.
-KINDS = ("file", "origin", "edge", "list", "encoder", "input", "memory", "journal", "disk", "standby")
+KINDS = ("file", "origin", "edge", "list", "encoder", "input", "memory", "disk", "journal", "standby")
 Metrics = dict[str, dict[str, float]]       # by metric and rendition; "" for one without
 
 
@@ -150,7 +150,7 @@ class Machine(NamedTuple):
             return f"{text}, though it runs", f"systemctl restart {service}" if option(values, "--journal", "") else f"journalctl -u {service} -n 20"
         if state in ("activating", "deactivating", "reloading"):
             restarts = unit.get("NRestarts", "0")
-            return f"{text}: it is starting" + f", for the {restarts}th time" * (restarts not in ("", "0")), f"journalctl -u {service} -n 20"
+            return f"{text}: it is starting" + f", after {restarts} restart{'s' * (restarts != '1')}" * (restarts not in ("", "0")), f"journalctl -u {service} -n 20"
         if unit.get("Result") == "exit-code" and unit.get("ExecMainStatus") == "2":
             return f"{text}: a wrong argument ended it", f"hls_channel check {health.name}"
         if unit.get("Result", "success") != "success":
@@ -218,11 +218,19 @@ def age_of(metrics: Metrics) -> float:
     return time.time() - begun - uptime if begun and uptime else 0.0
 
 
+def is_marked(folder: str) -> bool:
+    """Returns whether players have seen more than the journal in a folder has."""
+    with contextlib.suppress(OSError):
+        if os.lstat(os.path.join(folder, "lock")).st_size:
+            return True
+    return os.path.lexists(os.path.join(folder, "behind"))
+
+
 def relieve(name: str, values: dict[str, str]) -> str:
     """Returns what to type if an origin's memory is full. With a journal a restart costs two seconds, and nothing that is kept, unless the
     journal is lost, and its folder so marked."""
     service, folder = f"hls_origin@{name}", option(values, "--journal", "")
-    return f"systemctl restart {service}" if folder and not os.path.lexists(os.path.join(folder, "behind")) else f"prlimit --pid $(systemctl show -P MainPID {service}) --as=unlimited"
+    return f"systemctl restart {service}" if folder and not is_marked(folder) else f"prlimit --pid $(systemctl show -P MainPID {service}) --as=unlimited"
 
 
 def encoder_of(name: str, values: dict[str, str], rendition: str) -> str:
@@ -261,7 +269,7 @@ def look_at_lists(health: Health, metrics: Metrics) -> None:
     health.still = metrics.get("hls_list_still_seconds", {}).get("", 0.0)
     if health.still > STILL * metrics.get("hls_list_target_seconds", {}).get("", 6.0) and not metrics.get("hls_channel_ended", {}).get(""):
         why = [one.command for one in health.faults if one.kind in ("encoder", "memory", "input")]
-        health.add("list", f"the lists have been still for {health.still:.0f} s", [*why, f"journalctl -u 'hls_*@{health.name}' -g 'refused|wait for|ingest' -n 5"][0])
+        health.add("list", f"the lists have been still for {health.still:.0f} s", [*why, f"journalctl -u 'hls_*@{health.name}.service' -g 'refused|wait for|ingest' -n 5"][0])
 
 
 def look_at_standby(health: Health, values: dict[str, str]) -> None:
