@@ -186,7 +186,7 @@ class Site:
             shipped, programs = os.path.join(ROOT, "deploy", "prometheus"), os.path.join(self.folder, "mtail")
             os.makedirs(programs)
             shutil.copy(os.path.join(shipped, "hls_edge.mtail"), programs)
-            self.exporter("mtail", "mtail", "--progs", programs, "--address", "127.0.0.1", "--port", str(self.ports["mtail"]), "--logs", os.path.join(self.edge.folder, "hls_origin.log"))
+            self.exporter("mtail", "mtail", "--progs", programs, "--address", "127.0.0.1", "--port", str(self.ports["mtail"]), "--log_dir", self.folder, "--logs", os.path.join(self.edge.folder, "hls_origin.log"))
             self.exporter("blackbox", "prometheus-blackbox-exporter", f"--web.listen-address={at['blackbox']}", f"--config.file={shipped}/blackbox.yml")
         return node
 
@@ -235,7 +235,7 @@ class Prometheus:
         told = subprocess.run(["promtool", "check", "config", os.path.join(self.folder, "prometheus.yml")], capture_output=True, text=True)
         check("promtool takes the configuration", told.returncode == 0, told.stdout + told.stderr)
         self.process = harness.run("prometheus", f"--config.file={self.folder}/prometheus.yml", f"--storage.tsdb.path={self.folder}/data",
-                                    f"--web.listen-address=127.0.0.1:{self.port}", "--log.level=error", stdin=subprocess.DEVNULL)
+                                    f"--web.listen-address=127.0.0.1:{self.port}", "--log.level=error", stdin=subprocess.DEVNULL, stderr=open(os.path.join(self.folder, "log"), "w", encoding="utf-8"))
         wait_for(self.port)
 
     def get(self, path, **query):

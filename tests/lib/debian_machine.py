@@ -7,13 +7,16 @@ import subprocess
 import tempfile
 import time
 
-from harness import ROOT, check
+from harness import ROOT, SLACK, check
 
 # What START.md's last command calls: plays for eight seconds, and says how many pictures there were.
 PLAYER = """#!/bin/bash
 exec ffmpeg -nostdin -v error -stats "${@:1:$#-1}" -i "${@: -1}" -t 8 -map 0:v:0 -map '0:a:0?' -f null - 2>&1 | tr '\\r' '\\n' | tail -3
 """
 
+
+# Where allow_sanitizers writes.
+LIMIT_FILE = "/etc/systemd/system/hls_origin@.service.d/zz.conf"
 
 # The hierarchies of control groups in which a systemd keeps its units: one, or those of version 1 and 2 side by side.
 HIERARCHIES = [top for top in ("/sys/fs/cgroup/systemd", "/sys/fs/cgroup/unified", "/sys/fs/cgroup") if os.path.exists(top + "/cgroup.procs")]
@@ -138,12 +141,19 @@ class Machine:
 
 
 def wait(seconds, enough):
+    """Waits until something is so, for SLACK times as many seconds at most. Returns how long that took, or None."""
     begun = time.monotonic()
-    while time.monotonic() - begun < seconds:
+    while time.monotonic() - begun < seconds * SLACK:
         if enough():
             return time.monotonic() - begun
         time.sleep(0.3)
     return None
+
+
+def is_sanitized(program):
+    """Whether a program was built with sanitizers, such as an unproved one."""
+    with open(program, "rb") as file:
+        return b"AddressSanitizer" in file.read()
 
 
 def make(program, *words, **more):
@@ -171,6 +181,24 @@ def debian(base, root, wanted, more=""):
                           capture_output=True, text=True, stdin=subprocess.DEVNULL)
     if done.returncode:
         raise SystemExit(done.stdout[-500:] + done.stderr[-500:])
+
+
+def unsynced(root):
+    """Has a machine's dpkg sync no file: it shall not survive a power cut, and a busy disk makes each package wait."""
+    with open(os.path.join(root, "etc/dpkg/dpkg.cfg.d/unsynced"), "w") as file:
+        file.write("force-unsafe-io\n")
+
+
+def allow_sanitizers(root, program):
+    """Lifts the service's limit of its address space for a program with sanitizers, which map more than any limit allows. Returns whether it is
+    one."""
+    if not is_sanitized(program):
+        return False
+    print("   a program with sanitizers: its address space isn't limited here")
+    os.makedirs(os.path.dirname(root + LIMIT_FILE), exist_ok=True)
+    with open(root + LIMIT_FILE, "w") as file:
+        file.write("[Service]\nLimitAS=100T\n")
+    return True
 
 
 def start_commands():

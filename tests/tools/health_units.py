@@ -22,7 +22,7 @@ sys.path.insert(0, os.path.join(os.path.dirname(os.path.abspath(__file__)), ".."
 from scripts import DEPLOY, load_script, use_tools  # noqa: E402
 
 use_tools()
-from hls_tools import changes, channel_checks, edge, health, health_table, journals, services, sites, templates  # noqa: E402
+from hls_tools import changes, channel_checks, edge, foreground, health, health_table, journals, services, sites, templates  # noqa: E402
 from hls_tools.failures import Failure  # noqa: E402
 
 LIST = "#EXTM3U\n#EXT-X-MEDIA-SEQUENCE:{first}\n" + "#EXTINF:3.840000,\na.m4s\n" * 3
@@ -183,7 +183,7 @@ class Looking(Served):
 
     def test_lists(self):
         self.answer(hls_list_still_seconds=62)
-        self.one("list", "still for 62 s", "journalctl -u 'hls_*@news' -g 'refused|wait for|ingest' -n 5")
+        self.one("list", "still for 62 s", "journalctl -u 'hls_*@news.service' -g 'refused|wait for|ingest' -n 5")
         self.answer(hls_list_still_seconds=62, hls_channel_ended=1)
         self.assertEqual(self.look().faults, [])
         self.answer(hls_list_still_seconds=12)
@@ -194,7 +194,7 @@ class Looking(Served):
         old = metrics(process_start_time_seconds=time.time() - 1000, hls_uptime_seconds=900)
         replies = [old, metrics(process_start_time_seconds=time.time() - 1000, hls_uptime_seconds="1000000000e-6", hls_list_still_seconds="62000000e-6")]
         with unittest.mock.patch.object(health, "ask_metrics", lambda address: health.Response(200, None, replies.pop(0))):
-            self.one("list", "still for 62 s", "journalctl -u 'hls_*@news' -g 'refused|wait for|ingest' -n 5")
+            self.one("list", "still for 62 s", "journalctl -u 'hls_*@news.service' -g 'refused|wait for|ingest' -n 5")
 
     def test_memory(self):
         self.answer(hls_list_still_seconds=62, process_virtual_memory_bytes=97)
@@ -215,7 +215,10 @@ class Looking(Served):
             self.one("journal", "runs without its journal", "hls_channel anew news")
         with unittest.mock.patch.object(health, "room_of", lambda folder: (12e6, 0.001)):
             found = self.one("disk", f"12 MB are left on the disk of {self.folder}", f"du -xah $(df --output=target {self.folder} | tail -1) | sort -h | tail -20")
-        self.assertEqual(found.room, 0.001)
+            self.assertEqual(found.room, 0.001)
+            # an empty channel needs room first
+            self.answer(hls_journal_lost=1)
+            self.assertEqual([one.kind for one in self.one("disk", f"12 MB are left on the disk of {self.folder}", f"du -xah $(df --output=target {self.folder} | tail -1) | sort -h | tail -20").faults], ["disk", "journal"])
 
     def test_encoders(self):
         self.origin["/hls/0.m3u8"] = self.edge["/news/hls/0.m3u8"] = (404, b"refused NotYet\n")
@@ -245,7 +248,7 @@ class Looking(Served):
     def test_silent(self):
         self.conf(self.text.replace(str(self.port), "9"))
         for unit, text, command in (({"ActiveState": "active"}, "though it runs", "journalctl -u hls_origin@news -n 20"),
-                                    ({"ActiveState": "activating", "NRestarts": "7"}, "for the 7th time", "journalctl -u hls_origin@news -n 20"),
+                                    ({"ActiveState": "activating", "NRestarts": "7"}, "starting, after 7 restarts", "journalctl -u hls_origin@news -n 20"),
                                     ({"ActiveState": "failed", "Result": "exit-code", "ExecMainStatus": "2"}, "a wrong argument", "hls_channel check news"),
                                     ({"ActiveState": "failed", "Result": "exit-code", "ExecMainStatus": "1", "UnitFileState": "enabled"}, "it failed", "journalctl -u hls_origin@news -n 20"),
                                     ({"ActiveState": "inactive", "UnitFileState": "enabled"}, "it was stopped", "systemctl start hls_origin@news"),
@@ -406,6 +409,18 @@ esac
     def test_wrong(self):
         self.assertIsNone(changes.cost_of("news", self.values(f"--wrong --journal {self.journal}")))
 
+    def test_no_answer(self):
+        """A program that hangs, is killed or isn't there says nothing of the cost."""
+        values = self.values(f"--target 4 --journal {self.journal}")
+        for text, said in (("sleep 9", "wasn't read within 0.2 s"), ("kill -9 $$", "signal 9 ended"), (None, "can't be run")):
+            path = os.path.join(self.folder, "program")
+            if text:
+                self.write("program", f"#!/bin/sh\n{text}\n", 0o755)
+            else:
+                os.remove(path)
+            with unittest.mock.patch.object(changes, "PATIENCE", 0.2), self.assertRaisesRegex(Failure, f"{said}.* isn't known: nothing was changed"):
+                changes.cost_of("news", values)
+
     def test_set_aside(self):
         for text in ("first", "second", "third"):
             self.write("state/news/channel/log", text)
@@ -423,6 +438,30 @@ esac
         os.symlink(os.path.join(self.folder, "etc"), self.journal)
         with self.assertRaisesRegex(Failure, "is a link"):
             journals.copy("/nowhere", self.journal)
+
+
+@unittest.skipIf(os.geteuid(), "as root, which these are about")
+class ForegroundUser(Served):
+    """The user that `hls_channel serve` gives the origin, if it is root itself."""
+
+    def user(self, name):
+        with unittest.mock.patch.object(foreground, "STATE", os.path.join(self.folder, "state")):
+            return foreground.Foreground(self.write(f"{name}.conf", "OPTIONS='--target 4'\n"), DEPLOY).owner
+
+    def test_users(self):
+        nobody = (foreground.NOBODY, foreground.NOBODY)
+        self.assertEqual(self.user("made"), nobody)
+        os.mkdir(os.path.join(self.folder, "state", "volume"))
+        self.assertEqual(self.user("volume"), nobody)
+        path = self.write("state/own/channel/log", "")
+        os.chown(os.path.join(self.folder, "state", "own"), 1234, 5678)
+        self.assertEqual(self.user("own"), (1234, 5678))
+        self.write("state/file", "")
+        self.assertEqual(self.user("file"), nobody)
+        os.chown(os.path.join(self.folder, "state", "own"), 0, 0)
+        with self.assertRaisesRegex(Failure, "is root's, and an origin doesn't run as root: type chown -R"):
+            self.user("own")
+        self.assertEqual(os.stat(path).st_uid, 0)
 
 
 class Templates(Served):
