@@ -66,6 +66,8 @@ struct Worker<'a, H: Handler> {
     slots: Slab<Slot<H::Connection>>,
     /// Connections that have more to do.
     ready: Vec<usize>,
+    /// Empty: room for those that have more to do after their turn in this round.
+    room: Vec<usize>,
     /// Connections that wait for a change.
     wait_queue: WaitQueue,
     backlog: Backlog,
@@ -107,6 +109,7 @@ impl<'a, H: Handler + Drop> Worker<'a, H> {
             idle_timeout_s,
             slots: Slab::new(alloc),
             ready: Vec::new(alloc),
+            room: Vec::new(alloc),
             wait_queue: WaitQueue::new(alloc),
             backlog: Backlog::Maybe,
             accepts_left: worker_loads.connections,
@@ -243,10 +246,13 @@ impl<'a, H: Handler + Drop> Worker<'a, H> {
         requires valid { AllValid H.valid self.old.handler self.old.slots }
         ensures valid { AllValid H.valid self.new.handler self.new.slots }
     {
-        let keys = mem::replace(&mut self.ready, Vec::new(self.alloc));
+        let room = mem::replace(&mut self.room, Vec::new(self.alloc));
+        let mut keys = mem::replace(&mut self.ready, room);
         for key in &keys {
             self.resume_connection(*key);
         }
+        keys.clear();
+        self.room = keys;
     }
 
     /// Continues a woken connection, unless the entry is of an earlier connection with its key.

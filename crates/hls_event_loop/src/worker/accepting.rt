@@ -93,7 +93,18 @@ impl<'a, H: Handler + Drop> Worker<'a, H> {
         let slot = Slot::new(self.handler.open(), stream, peer, self.now);
         let key = insert_slot(&mut self.slots, slot)?;
         self.worker_loads.count_opened(self.index, self.slots.len());
+        self.reserve_turns();
         Some(key)
+    }
+
+    /// Makes room to note that each connection has more to do, so that none is given up for want of it.
+    fn reserve_turns(&mut self)
+        ensures handler { self.new.handler ≡ self.old.handler }
+        ensures slots { self.new.slots ≡ self.old.slots }
+    {
+        let turns = self.slots.len();
+        let _ = self.ready.reserve(turns);
+        let _ = self.room.reserve(turns);
     }
 
     /// Has the kernel report a connection's readiness. Returns false if it refuses.
