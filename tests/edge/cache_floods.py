@@ -1,5 +1,6 @@
-"""Strangers make the edge fetch what isn't in its caches: segments, and programmes' playlists and certificates, from some addresses of
-IPv4 or from many networks of IPv6, until a file system of the caches would be full. Meanwhile a viewer of another channel plays.
+"""Strangers make the edge fetch what isn't in its caches: segments, programmes' certificates, and playlists from a time on, from some
+addresses of IPv4 or from many networks of IPv6, until a file system of the caches would be full. Meanwhile a viewer of another channel
+plays.
 
 Not a script: tests/edge/attacks runs it. The file systems are small ones, and segments are as large beside them as those of 16 Mbit/s
 beside the ones of a machine of 4 GB.
@@ -13,6 +14,7 @@ import sys
 import threading
 import time
 
+import abuse
 import harness
 from edge_site import TICKS, WORDS, Edge, bytes_of, feed, media_of, names
 from harness import ROOT, ask, check, free_port
@@ -24,6 +26,10 @@ from hls_tools import caches
 SYSTEMS = {"": 320, "lists": 16, "recorded": 8}            # MB of each file system
 LARGE, UNITS, RUN = 400_000, 120, 8                        # bytes of a large unit, how many there are, and in the longest segment
 PREFIX = "2001:db8:77"                                     # the networks of IPv6 that strangers have
+# What nginx logs of files that close_slow_readers has emptied or removed, of those that it can't evict because they are read, and of its own connections
+# that a reload closes
+BROKEN_OFF = re.compile(r"ignore long locked inactive cache entry|unlink\(\) .* failed \(2: |sendfile\(\) reported that .* was truncated|pread\(\) read only|"
+                        r"recv\(\) failed \(104: .* while reading response header from upstream, .* host: \"hls_inner\"")
 
 
 class Floods:
@@ -43,6 +49,9 @@ class Floods:
         assert ask(self.large.port, "PUT", "/ingest/1", media_of(0, 1, UNITS // 4))[0] == 200
         self.mounted, self.six, self.heads = [], free_port(), Heads()
         self.edge = self.make_edge()
+        # with the rights of its service
+        words = ["setpriv", "--reuid", "www-data", "--regid", "www-data", "--clear-groups", "--bounding-set=-all", "--no-new-privs", os.path.join(ROOT, "deploy", "close_slow_readers")]
+        self.tool = harness.run(*words, os.path.join(self.edge.folder, "pid"), os.path.join(self.edge.folder, "cache"), stderr=subprocess.PIPE, text=True)
 
     def make_edge(self):
         """An edge whose caches have the shares that `hls_channel site` computes."""
@@ -56,12 +65,13 @@ class Floods:
         for name, size in SYSTEMS.items():
             path = os.path.join(edge.folder, "cache", name)
             os.makedirs(path, exist_ok=True)
-            subprocess.run(["mount", "-t", "tmpfs", "-o", f"size={size}m,mode=755", "tmpfs", path], check=True)
+            subprocess.run(["mount", "-t", "tmpfs", "-o", f"size={size}m,mode=755,strictatime", "tmpfs", path], check=True)
             self.mounted.append(path)
         edge.start()
         return edge
 
     def stop(self):
+        self.tool.kill()
         self.edge.stop()
         for path in reversed(self.mounted):
             subprocess.run(["umount", "-l", path], check=True)
@@ -253,23 +263,27 @@ def hold(floods, requests):
 
 
 class SlowReader(threading.Thread):
-    """Requests made-up segments from an address, each in a connection that stays, and reads only as much as keeps nginx from closing them."""
+    """Holds made-up segments for an address, and reads only as much as keeps nginx from closing their connections."""
 
     def __init__(self, floods, here, paths):
         super().__init__(daemon=True)
-        self.floods, self.here, self.paths, self.held, self.lost, self.over = floods, here, list(paths), [], 0, threading.Event()
+        self.floods, self.here, self.paths, self.held, self.over = floods, here, paths[::-1], [], threading.Event()
 
     def run(self):
         read = time.monotonic()
         while not self.over.wait(0.2):
             with contextlib.suppress(OSError):
-                self.held.append(request_slowly(self.floods, self.here, self.paths.pop()))
+                self.hold(self.paths.pop())
             if time.monotonic() - read > 8:
                 read = time.monotonic()
                 for s in list(self.held):
                     self.read(s)
         for s in self.held:
             s.close()
+
+    def hold(self, path):
+        """Requests one more segment."""
+        self.held.append(request_slowly(self.floods, self.here, path))
 
     def read(self, s):
         """Reads what is there, up to some hundred kilobytes."""
@@ -282,7 +296,38 @@ class SlowReader(threading.Thread):
             pass
         except OSError:
             self.held.remove(s)
-            self.lost += 1
+
+
+class SlowReaderOfCached(SlowReader):
+    """Holds segments that it has read before, so that they are in the cache."""
+
+    def hold(self, path):
+        self.floods.edge.raw(path, here=self.here)
+        super().hold(path)
+
+
+class SlowReaderByTwo(SlowReader):
+    """Holds segments as streams of HTTP/2 without a window, so that there is nothing to send in their connections."""
+
+    def __init__(self, floods, here, paths):
+        super().__init__(floods, here, paths)
+        self.streams = 128      # of the last connection
+
+    def hold(self, path):
+        if self.streams == 128:
+            self.held.append(abuse.Two(self.floods.edge, self.here).line)
+            self.streams = 0
+        self.held[-1].sendall(abuse.head_frame(2 * self.streams + 1, path.encode()))
+        self.streams += 1
+
+    def read(self, s):
+        """Opens the windows by a byte each."""
+        try:
+            for stream in range(self.streams if s is self.held[-1] else 128):
+                s.sendall(abuse.frame(8, 0, 2 * stream + 1, (1).to_bytes(4, "big")))
+        except OSError:
+            self.held.remove(s)
+            self.streams = self.streams if self.held else 128
 
 
 def request_slowly(floods, here, path):
@@ -301,49 +346,52 @@ def request_slowly(floods, here, path):
 
 
 def slow_readers(floods):
-    """Three addresses hold segments that nginx has evicted: close_slow_readers bounds what these take, and closes nobody who reads."""
-    paths, edge = floods.made_up(), floods.edge
-    tool = harness.run(os.path.join(ROOT, "deploy", "close_slow_readers"), os.path.join(edge.folder, "pid"), os.path.join(edge.folder, "cache"), stderr=subprocess.PIPE, text=True)
-    viewer, strangers = Viewer(floods), [SlowReader(floods, f"127.9.150.{n + 1}", paths[n::3]) for n in range(3)]
-    for one in (viewer, *strangers):
-        one.start()
-    time.sleep(25)
-    # a viewer whose network takes 400 kB a second
-    right, got, last = paths[0], b"", time.monotonic() + 30
-    check("a segment is cached for a viewer", len(edge.raw(right, here="127.9.151.2")[2]) == RUN * LARGE)
-    with request_slowly(floods, "127.9.151.1", right) as s:
-        while time.monotonic() < last and (part := s.recv(40000)):
-            got += part
-            time.sleep(len(part) / 400000)
-    first, end = bytes_of(right)
-    for one in strangers:
-        one.over.set()
-    for one in strangers:
-        one.join()
-    viewer.end()
-    tool.terminate()
-    said, lost = tool.stderr.read(), sum(one.lost for one in strangers)
-    print(f"slow readers: the file system was full to {viewer.fullest:.0%}; {lost} of their connections were closed; the viewer: {viewer.right} right, {viewer.bad}; {said.strip()}")
-    check("slow readers leave a viewer all of its own", not viewer.bad and viewer.right > 5, (viewer.bad, viewer.right))
-    check("and don't fill the file system", viewer.fullest < 0.95, viewer.fullest)
-    check("since many of them are closed, which is logged", lost > 20 and "closed the slowest" in said, (lost, said))
-    check("and nobody who reads faster is", len(got.partition(b"\r\n\r\n")[2]) == end - first + 1, len(got))
+    """Three addresses hold segments: close_slow_readers, with the rights of its service, bounds what these take, and breaks off nobody who reads."""
+    edge, paths = floods.edge, floods.made_up()
+    for at, kind in enumerate((SlowReader, SlowReaderOfCached, SlowReaderByTwo)):
+        viewer, strangers = Viewer(floods), [kind(floods, f"127.9.15{at}.{n + 1}", paths[1:][n::3]) for n in range(3)]
+        for one in (viewer, *strangers):
+            one.start()
+        time.sleep(25)
+        # nginx takes its connections with the processes that it had before, too
+        check("nginx reloads meanwhile", edge.edge().returncode == 0)
+        # a viewer whose network takes 400 kB a second
+        right, got, last = paths[0], b"", time.monotonic() + 30
+        check("a segment is cached for a viewer", len(edge.raw(right, here="127.9.155.2")[2]) == RUN * LARGE)
+        with request_slowly(floods, "127.9.155.1", right) as s:
+            while time.monotonic() < last and (part := s.recv(40000)):
+                got += part
+                time.sleep(len(part) / 400000)
+        first, end = bytes_of(right)
+        for one in strangers:
+            one.over.set()
+        for one in strangers:
+            one.join()
+        viewer.end()
+        print(f"{kind.__name__}: the file system was full to {viewer.fullest:.0%}; the viewer: {viewer.right} right, {viewer.bad}")
+        check(f"{kind.__name__} leaves a viewer all of its own", not viewer.bad and viewer.right > 5, (viewer.bad, viewer.right))
+        check("and doesn't fill the file system", viewer.fullest < 0.9, viewer.fullest)
+        check("and nobody who reads faster is", len(got.partition(b"\r\n\r\n")[2]) == end - first + 1, len(got))
+    floods.tool.terminate()
+    said = floods.tool.stderr.read()
+    check("the slowest responses are broken off, which is logged once a minute", 0 < said.count("the slowest ones are broken off") < 5, said)
 
 
-def programmes(floods):
-    """Certificates of made-up programmes for 30 addresses of IPv4, and for 96 networks of one line of IPv6."""
-    paths = [f"/large/hls/programme/{n}/{n + 50_000_000}/certificate.txt" for n in range(40000)]
-    for name, addresses in (("30 addresses", [f"127.9.130.{n + 1}" for n in range(30)]), ("96 networks of a /56", [f"{PREFIX}:12{n:02x}::1" for n in range(96)])):
-        own = paths[:9000] if len(addresses) == 30 else paths[9000:]
-        begun = time.monotonic()
-        viewer, statuses, answered = attack(floods, 12, addresses, lambda n: own[300 * n:300 * n + 300], "HEAD", 1)
-        seconds = time.monotonic() - begun
-        print(f"HEAD of made-up programmes by {name}: {statuses}; their file system is full to {floods.used('recorded'):.0%}; the viewer: {viewer.right} right, {viewer.bad}, at most {viewer.slowest:.1f} s")
-        check(f"made-up programmes for {name} leave a viewer all of its own", not viewer.bad and viewer.right > 5, (viewer.bad, viewer.right))
-        check("and take nothing of the segments' and live lists' file systems", viewer.fullest < 0.9 and floods.used("lists") < 0.5, (viewer.fullest, floods.used("lists")))
-        # each by its own path, since one that is cached meanwhile is answered again
-        admitted = 41 + 2 * seconds if ":" in addresses[0] else 30 * (21 + seconds)
-        check("they are as many as the networks' limits allow", 20 < len(answered) <= admitted, (len(answered), admitted, statuses))
+def recorded(floods):
+    """Certificates of made-up programmes, and lists from made-up times on, for 30 addresses of IPv4 and for 96 networks of one line of IPv6."""
+    for what, path_of, rate, burst in (("programmes", lambda n: f"/large/hls/programme/{n}/{n + 50_000_000}/certificate.txt", 1, 20), ("lists from a time on", lambda n: f"/large/hls/since/{n}/0.m3u8", 4, 40)):
+        paths = [path_of(n) for n in range(40000)]
+        for name, addresses in (("30 addresses", [f"127.9.130.{n + 1}" for n in range(30)]), ("96 networks of a /56", [f"{PREFIX}:12{n:02x}::1" for n in range(96)])):
+            own = paths[:9000] if len(addresses) == 30 else paths[9000:]
+            begun = time.monotonic()
+            viewer, statuses, answered = attack(floods, 12, addresses, lambda n, own=own: own[300 * n:300 * n + 300], "HEAD", 1)
+            seconds = time.monotonic() - begun
+            print(f"HEAD of made-up {what} by {name}: {statuses}; their file system is full to {floods.used('recorded'):.0%}; the viewer: {viewer.right} right, {viewer.bad}, at most {viewer.slowest:.1f} s")
+            check(f"made-up {what} for {name} leave a viewer all of its own", not viewer.bad and viewer.right > 5, (viewer.bad, viewer.right))
+            check("and take nothing of the segments' and live lists' file systems", viewer.fullest < 0.9 and floods.used("lists") < 0.5, (viewer.fullest, floods.used("lists")))
+            # each by its own path, since one that is cached meanwhile is answered again
+            admitted = 2 * burst + 1 + 2 * rate * seconds if ":" in addresses[0] else 30 * (burst + 1 + rate * seconds)
+            check("they are as many as the networks' limits allow", burst < len(answered) <= admitted, (len(answered), admitted, statuses))
 
 
 def networks(floods):
@@ -399,11 +447,9 @@ def cache_floods(program, folder):
     floods = Floods(program, folder)
     try:
         with addresses_of_strangers():
-            for group in (inner, above_rate, segments, slow_readers, programmes, networks):
+            for group in (inner, above_rate, segments, recorded, networks, slow_readers):
                 group(floods)
-        # 30 addresses can fill the file system for a moment; then what they request isn't stored
-        stored = re.compile(r'pwritev\(\) .* has written only .*"GET /-/large/')
-        said = [line for line in floods.edge.errors() if "signal process started" not in line and not stored.search(line)]
+        said = [line for line in floods.edge.errors() if "signal process started" not in line and not BROKEN_OFF.search(line)]
         check("nginx has nothing to say of all that", not said, said[:3])
     finally:
         floods.stop()
