@@ -346,7 +346,7 @@ def request_slowly(floods, here, path):
 
 
 def slow_readers(floods):
-    """Three addresses hold segments: close_slow_readers, with the rights of its service, bounds what these take, and breaks off nobody who reads."""
+    """Three addresses hold segments: close_slow_readers, with the rights of its service, bounds what these take, and breaks off no client that reads."""
     edge, paths = floods.edge, floods.made_up()
     for at, kind in enumerate((SlowReader, SlowReaderOfCached, SlowReaderByTwo)):
         viewer, strangers = Viewer(floods), [kind(floods, f"127.9.15{at}.{n + 1}", paths[1:][n::3]) for n in range(3)]

@@ -261,7 +261,7 @@ fn make_fillers(
     Ok(fillers)
 }
 
-/// Fillers of this length from a tick to another, of which the source is read once.
+/// Fillers of this length from a tick to another. Their source is read once.
 #[tactic(auto, using(crate::proofs::FirstSteps::unread_fills_nothing))]
 fn fill_from(
     alloc: Global,

@@ -1,4 +1,4 @@
--- The places of a rendition: who has one, who may take one, and who is woken.
+-- The places of a rendition: which bodies have one, which may take one, and which are woken.
 use Rattle.std.specs.Prelude.{◌≡◌, ◌⊎◌, ℕ, ◌+◌, ◌^◌, ◌%◌, ◌<◌, Bool, true, false, not, cond, ◌&&◌, ◌||◌, ◌==◌, max, List, length, map, slice_set, slice_get, All, Some}
 use Rattle.std.specs.List.{list_any}
 use Rattle.hls_rates.specs.declared.place.Place.{Place}

@@ -1,4 +1,4 @@
-//! A rendition's lane: how much of its rates is taken, which bodies wait, and who is next.
+//! A rendition's lane: how much of its rates is taken, which bodies wait, and which one is next.
 
 ghost use Rattle.std.specs.Prelude.{◌≡◌, false, replicate};
 ghost use Rattle.hls_rates.specs.Lanes.{AsksTurn, HoldsBody, TakesTurn, lane_left, lane_with, pause_end, share_waiting};

@@ -1,4 +1,4 @@
-//! The places of a rendition: who has one, who may take one, and whether one that waits is woken.
+//! The places of a rendition: which bodies have one, which may take one, and whether one that waits is woken.
 
 ghost use Rattle.std.specs.Prelude.{◌≡◌, All, MatchOption, false, true, map, replicate};
 ghost use Rattle.std.specs.List.{list_any};
