@@ -323,12 +323,13 @@ fn count_heard(report: IngestReport) -> u64 {
         .saturating_add(counts.dropped)
 }
 
-/// Returns how many parts of a body were handled, whatever became of them.
+/// Returns how many parts of a body were handled, whatever became of them, and fillers before them: each takes an entry of the log too.
 fn count_parts(report: IngestReport) -> u64 {
     let counts = report.counts;
     count_heard(report)
         .saturating_add(counts.inits)
         .saturating_add(counts.repeats)
+        .saturating_add(counts.filled)
 }
 
 impl<'a, R: Wait + Clock + Eprint> ServerHandler<'a, R> {
