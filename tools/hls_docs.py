@@ -31,6 +31,22 @@ def crates_in_order():
     return found
 
 
+def crates_of(program):
+    """The crates that a program consists of."""
+    used = {}
+    for line in text_of(os.path.join(ROOT, "crates.txt")).splitlines():
+        name, colon, libraries = line.partition("#")[0].partition(":")
+        if colon:
+            used[name.strip()] = libraries.split()
+    found, left = [], [program]
+    while left:
+        crate = left.pop()
+        if crate in used and crate not in found:
+            found.append(crate)
+            left += used[crate]
+    return found
+
+
 def files(folder, ending):
     for at, folders, names in os.walk(folder):
         folders.sort()
@@ -154,6 +170,8 @@ class Call:
     def __init__(self, owner, name, takes, gives, says, clauses, is_law, is_public, line):
         self.owner, self.name, self.takes, self.gives, self.says = owner, name, takes, gives, says
         self.clauses, self.is_law, self.is_public, self.line = clauses, is_law, is_public, line
+        # where its body is in the source
+        self.body = 0, 0
 
     def full(self):
         return "%s::%s" % (self.owner, self.name) if self.owner else self.name
@@ -247,6 +265,7 @@ class Source:
         is_public = found.group(1) == "pub" or is_public_trait
         self.calls.append(Call(owner, name.group(1), takes, gives, self.doc(found.start()), clauses, is_law, is_public,
                                self.text.count("\n", 0, found.start()) + 1))
+        self.calls[-1].body = body.end(), max(body.end(), last)
         return last + 1
 
     def doc(self, at):
