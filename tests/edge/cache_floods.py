@@ -51,7 +51,7 @@ class Floods:
         self.edge = self.make_edge()
         # with the rights of its service
         words = ["setpriv", "--reuid", "www-data", "--regid", "www-data", "--clear-groups", "--bounding-set=-all", "--no-new-privs", os.path.join(ROOT, "deploy", "close_slow_readers")]
-        self.tool = harness.run(*words, os.path.join(self.edge.folder, "pid"), os.path.join(self.edge.folder, "cache"), stderr=subprocess.PIPE, text=True)
+        self.tool = harness.run(*words, os.path.join(self.edge.folder, "cache"), stderr=subprocess.PIPE, text=True)
 
     def make_edge(self):
         """An edge whose caches have the shares that `hls_channel site` computes."""
