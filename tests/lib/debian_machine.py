@@ -39,11 +39,18 @@ class ControlGroup:
                 file.write("0")
 
     def remove(self):
-        """Removes the group and those below it, once none of its processes is left."""
-        for folder in self.folders:
-            for at, _, _ in os.walk(folder, topdown=False):
-                wait(10, lambda at=at: not open(at + "/cgroup.procs").read())
-                os.rmdir(at)
+        """Removes the group and those below it, once the last of its processes has ended, which takes the kernel its time."""
+        if wait(30, lambda: all([is_removed(at) for folder in self.folders for at, _, _ in os.walk(folder, topdown=False)])) is None:
+            raise SystemExit(f"{self.folders[0]} isn't empty")
+
+
+def is_removed(group):
+    """Removes a control group that has no processes and no group below it. Returns whether it did."""
+    try:
+        os.rmdir(group)
+    except OSError:
+        return False
+    return True
 
 
 class Machine:
