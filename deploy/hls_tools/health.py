@@ -169,7 +169,7 @@ class Machine(NamedTuple):
             if health.name not in self.served:
                 health.add("edge", "the edge doesn't serve it", f"hls_channel add {health.name}")
             elif state != "active":
-                health.add("edge", "nginx isn't running", "systemctl start nginx" if state == "inactive" else "nginx -t")
+                health.add("edge", "nginx isn't running", "systemctl start nginx" if state == "inactive" else "nginx -t && systemctl restart nginx")
             elif is_up:
                 found = (ask_edge(self.site, place, health.address) for place in places)
                 health.faults += [one for one in found if one][:1]

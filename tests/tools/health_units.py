@@ -160,7 +160,7 @@ class Looking(Served):
         self.one("edge", "nginx isn't running", "systemctl start nginx")
         for state in ("failed", "activating"):
             self.units["nginx"] = {"ActiveState": state}
-            self.one("edge", "nginx isn't running", "nginx -t")
+            self.one("edge", "nginx isn't running", "nginx -t && systemctl restart nginx")
 
     def test_edge(self):
         self.one("edge", "doesn't serve it", "hls_channel add news", served=())
