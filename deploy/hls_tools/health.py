@@ -19,7 +19,7 @@ from .channel_checks import origins_at_edge, places_of
 from .channels import Wrong, address_of_file, name_of, option, read_values
 from .failures import Failure
 from .origins import Origin, Response
-from .services import Unit, arguments_of, filled_renditions, read_units, room_of
+from .services import RENDITION_NAME, Unit, arguments_of, filled_renditions, read_units, room_of
 from .sites import Site, find_site
 
 TIMEOUT = 3.0               # seconds that an origin or the edge may take for a response
@@ -76,17 +76,19 @@ class Health:
 # What is asked
 
 def read_metrics(response: Response) -> Metrics:
-    """Reads the values of /metrics, by the renditions' names."""
+    """Reads the values of /metrics, by the renditions' names. What answers may be another program: names go into lines and commands that an
+    operator types, so only those that a rendition may have are read."""
     found: Metrics = {}
-    for name, labels, value in re.findall(r'^(\w+)(?:\{([^}\n]*)\})? ([0-9]+(?:\.[0-9]+)?(?:e-[0-9]+)?)$', response.body.decode("ascii", "replace"), re.M):
+    for name, labels, value in re.findall(r'^(\w+)(?:\{([^}\n]*)\})? ([0-9]{1,20}(?:\.[0-9]{1,20})?(?:e-[0-9]{1,3})?)$', response.body.decode("ascii", "replace"), re.M):
         rendition = re.search(r'\bname="([^"]*)"', labels)
-        found.setdefault(name, {})[rendition[1] if rendition else ""] = float(value)
+        if not rendition or re.fullmatch(RENDITION_NAME, rendition[1]):
+            found.setdefault(name, {})[rendition[1] if rendition else ""] = float(value)
     return found
 
 
 def next_segment(text: str) -> int:
     """Returns the media sequence number that a live list's next segment will have."""
-    first = re.search(r"^#EXT-X-MEDIA-SEQUENCE:(\d+)$", text, re.M)
+    first = re.search(r"^#EXT-X-MEDIA-SEQUENCE:(\d{1,16})$", text, re.M)
     return int(first[1] if first else 0) + len(re.findall(r"^#EXTINF:", text, re.M))
 
 

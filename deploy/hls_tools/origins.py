@@ -75,7 +75,7 @@ class PlacedConnection(http.client.HTTPConnection):
 
 class Origin:
     """An origin, by its own address or by a channel's URL at an edge. A user and a password are taken from the URL or from ~/.netrc.
-    With a patience of 0 each request is made once."""
+    With a patience of 0 each request is made once, and has no more time than the timeout."""
 
     def __init__(self, word: str, *, authority: str | None = None, agent: str = "hls_tools", timeout: float = TIMEOUT, patience: float = PATIENCE) -> None:
         url = split_url(url_of(word))
@@ -113,7 +113,7 @@ class Origin:
         begun = time.monotonic()
         while True:
             try:
-                response = self._once(path, limit, self.timeout + max(expected, LONG) / SLOWEST)
+                response = self._once(path, limit, self.timeout + (max(expected, LONG) / SLOWEST if self.patience else 0))
             except ssl.SSLCertVerificationError as fault:
                 raise Failure(f"{self.url}: the edge's certificate isn't trusted ({fault.verify_message}): use --ca FILE with the authority that "
                               "signed it, or with the certificate itself if it is self-signed") from fault

@@ -5,7 +5,8 @@ import re
 import subprocess
 from collections.abc import Sequence
 
-FILLED = re.compile(r"serve: (\S+) is (away and is filled|back after)")
+RENDITION_NAME = r"[A-Za-z0-9_-]{1,32}"
+FILLED = re.compile(rf"serve: ({RENDITION_NAME}) is (away and is filled|back after)")
 PROPERTIES = ("ActiveState", "Result", "UnitFileState", "ExecMainStatus", "MainPID", "NRestarts", "StatusText")
 Unit = dict[str, str]
 

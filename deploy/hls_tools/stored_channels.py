@@ -21,6 +21,7 @@ CHANNEL, BEGUN, ACCEPTED, TRIMMED = 0, 1, 2, 5          # kinds of records
 FILE = 1 << 26                                          # bytes of a media file
 LOG = 1 << 30                                           # bytes of a log that are read: a longer one isn't an origin's
 LONGEST = 1 << 27                                       # bytes of a record
+RECORDS = 5 << 20                                       # records of a log that are read: 4194304 events, and notes of what is synced
 UNIT_LIMIT = 1 << 26
 BASE_BYTES, CONFIGURATION, SPECIFICATIONS, RENDITION = 60, 188, 213, 49        # places in a channel's record, and the length of a rendition
 START, WORD, FIRST, SECOND = 0x243f6a8885a308d3, (1 << 64) - 1, 0x9e3779b97f4a7c15, 0xbf58476d1ce4e5b9
@@ -65,7 +66,7 @@ def bodies_of(log: bytes) -> Iterator[bytes]:
     while place + 12 <= len(log):
         length, expected = struct.unpack_from("<IQ", log, place)
         body = log[place + 12:place + 12 + length]
-        if length > LONGEST or len(body) < length or checksum(number, body) != expected:
+        if number > RECORDS or length > LONGEST or len(body) < length or checksum(number, body) != expected:
             return
         yield body
         place, number = place + 12 + length, number + 1
@@ -87,13 +88,17 @@ def renditions_of(body: bytes) -> list[str]:
     found = []
     for place in range(SPECIFICATIONS, len(body) - RENDITION + 1, RENDITION):
         name, video, bandwidth, tolerance = struct.unpack_from("<32s?QQ", body, place)
-        found.append(f"{name.rstrip(bytes(1)).decode('ascii', 'replace')}:{'video' if video else 'audio'}:{bandwidth}:{tolerance}")
+        text = name.rstrip(bytes(1)).decode("ascii", "replace")
+        # it becomes an argument of serve, and must be no option
+        if not re.fullmatch(r"[A-Za-z0-9_][A-Za-z0-9_-]{0,31}", text):
+            raise Failure("its log has a rendition without a name")
+        found.append(f"{text}:{'video' if video else 'audio'}:{bandwidth}:{tolerance}")
     return found
 
 
 def read_log(path: str) -> Stored:
     """Reads a log. Its units are those that no record trims."""
-    bodies = list(bodies_of(read_regular(path, LOG)))
+    bodies = list(bodies_of(read_regular(path, LOG, flags=os.O_NOFOLLOW)))
     if not bodies:
         raise Failure("its log has no whole record")
     stored = Stored(options_of(bodies[0]), renditions_of(bodies[0]), {}, [])
@@ -122,9 +127,8 @@ def read_unit(folder: str, unit: Unit) -> bytes | None:
     with contextlib.suppress(OSError):
         while len(found) < unit.length <= UNIT_LIMIT:
             number, place = divmod(unit.place + len(found), FILE)
-            with open(os.path.join(folder, "media", str(unit.rendition), f"{number:05}"), "rb") as file:
-                file.seek(place)
-                piece = file.read(min(unit.length - len(found), FILE - place))
+            path = os.path.join(folder, "media", str(unit.rendition), f"{number:05}")
+            piece = read_regular(path, min(unit.length - len(found), FILE - place), place, os.O_NOFOLLOW)
             if not piece:
                 return None
             found += piece

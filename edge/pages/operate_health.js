@@ -9,8 +9,9 @@ const FULL = 0.9; // share of its memory limit that an origin may use
 /// The values of metrics in Prometheus' text format, each by its rendition's name; by "" if it has none.
 export function readMetrics(text) {
     const found = new Map();
-    for (const [, metric, labels, value] of text.matchAll(/^(\w+)(?:\{([^}\n]*)\})? ([0-9]+(?:\.[0-9]+)?(?:e-[0-9]+)?)$/gm)) {
+    for (const [, metric, labels, value] of text.matchAll(/^(\w+)(?:\{([^}\n]*)\})? ([0-9]{1,20}(?:\.[0-9]{1,20})?(?:e-[0-9]{1,3})?)$/gm)) {
         const name = /\bname="([^"]*)"/.exec(labels ?? "")?.[1] ?? "";
+        if (!/^[A-Za-z0-9_-]{0,32}$/.test(name)) continue;
         if (!found.has(metric)) found.set(metric, new Map());
         found.get(metric).set(name, Number(value));
     }
