@@ -213,7 +213,7 @@ def told_at_the_start(program, folder):
     """Settings that no machine keeps to."""
     origin = Origin(program, folder, ["--workers", "4", "--keep", "9000000000000000"], THREE)
     seen_once(origin, "too much kept", r"serve: these renditions need \d+ MB for --keep and --window, and this machine has \d+ MB")
-    wanted = int(re.search(r"want (\d+) MB", "\n".join(origin.lines()))[1])
+    wanted = int(re.search(r"need (\d+) MB", "\n".join(origin.lines()))[1])
     check("as the formula has it", abs(wanted - 3928000 / 8 * 9000000052 / 1e6) < 2, wanted)
     origin.stop()
     origin = LimitedOrigin(program, folder, [], THREE, name="limited")
