@@ -140,8 +140,10 @@ class Machine:
         # systemd's own signal for a power-off
         subprocess.run(["kill", "-RTMIN+4", self.leader])
         try:
-            self.nspawn.wait(30)
+            self.nspawn.wait(60 * SLACK)
         except subprocess.TimeoutExpired:
+            # and all of its processes with it
+            subprocess.run(["kill", "-KILL", self.leader])
             self.nspawn.kill()
             self.nspawn.wait()
         self.group.remove()
