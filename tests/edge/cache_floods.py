@@ -25,6 +25,7 @@ from hls_tools import caches
 
 SYSTEMS = {"": 320, "lists": 16, "recorded": 8}            # MB of each file system
 LARGE, UNITS, RUN = 400_000, 120, 8                        # bytes of a large unit, how many there are, and in the longest segment
+LATE = 3                                                   # seconds until a late origin answers HEAD
 PREFIX = "2001:db8:77"                                     # the networks of IPv6 that strangers have
 # What nginx logs of files that close_slow_readers has emptied or removed, of those that it can't evict because they are read, and of its own connections
 # that a reload closes
@@ -47,7 +48,7 @@ class Floods:
         body = init_section() + b"".join(unit(number * TICKS // 4, TICKS // 4, LARGE, number) for number in range(UNITS))
         assert ask(self.large.port, "PUT", "/ingest/0", body)[0] == 200
         assert ask(self.large.port, "PUT", "/ingest/1", media_of(0, 1, UNITS // 4))[0] == 200
-        self.mounted, self.six, self.heads = [], free_port(), Heads()
+        self.mounted, self.six, self.heads, self.late = [], free_port(), Heads(), Late()
         self.edge = self.make_edge()
         # with the rights of its service
         words = ["setpriv", "--reuid", "www-data", "--regid", "www-data", "--clear-groups", "--bounding-set=-all", "--no-new-privs", os.path.join(ROOT, "deploy", "close_slow_readers")]
@@ -60,7 +61,7 @@ class Floods:
         sized = caches.sized(text, lambda cache: SYSTEMS.get(cache, SYSTEMS[""]) << 20)
         changes = [(old, new) for old, new in zip(text.split("\n"), sized.split("\n")) if old != new]
         six = f"server {{ listen [::]:{self.six}; server_name localhost; include {self.folder}/edge/nginx/hls_server.conf; location / {{ return 404; }} }}\n"
-        edge = Edge(self.folder, f"news /news 127.0.0.1:{self.news.port}\nlarge /large 127.0.0.1:{self.large.port}\nheads /heads 127.0.0.1:{self.heads.port}\n", more=six, changes=changes)
+        edge = Edge(self.folder, f"news /news 127.0.0.1:{self.news.port}\nlarge /large 127.0.0.1:{self.large.port}\nheads /heads 127.0.0.1:{self.heads.port}\nlate /late 127.0.0.1:{self.late.port}\n", more=six, changes=changes)
         edge.stop()
         for name, size in SYSTEMS.items():
             path = os.path.join(edge.folder, "cache", name)
@@ -122,6 +123,28 @@ class Heads(threading.Thread):
         """The client that the last request names."""
         found = re.search(r"^X-Client: (.*)\r$", self.heads[-1] if self.heads else "", re.M)
         return found and found[1]
+
+
+class Late(threading.Thread):
+    """An origin that answers HEAD late, and has four bytes wherever they are asked for."""
+
+    def __init__(self):
+        super().__init__(daemon=True)
+        self.listener = socket.create_server(("127.0.0.1", 0))
+        self.port = self.listener.getsockname()[1]
+        self.start()
+
+    def run(self):
+        while True:
+            near, _ = self.listener.accept()
+            threading.Thread(target=self.answer, args=(near,), daemon=True).start()
+
+    def answer(self, near):
+        with near:
+            is_head = near.recv(65536).startswith(b"HEAD")
+            time.sleep(LATE if is_head else 0)
+            head = b"HTTP/1.1 200 OK\r\nContent-Type: video/mp4\r\nCache-Control: max-age=86400\r\nContent-Length: 4\r\nConnection: close\r\n\r\n"
+            near.sendall(head + b"late" * (not is_head))
 
 
 class Viewer(threading.Thread):
@@ -394,6 +417,20 @@ def recorded(floods):
             check("they are as many as the networks' limits allow", burst < len(answered) <= admitted, (len(answered), admitted, statuses))
 
 
+def heads(floods):
+    """A HEAD stores nothing, so a viewer that wants the same segment doesn't wait for it."""
+    for n in range(3):
+        path = f"/late/hls/0123456789abcdef/0/{n * 4}-{n * 4 + 3}.m4s"
+        first = threading.Thread(target=floods.edge.raw, args=(path,), kwargs={"here": "127.9.150.1", "method": "HEAD"})
+        first.start()
+        time.sleep(0.3)
+        begun = time.monotonic()
+        status, _, body = floods.edge.raw(path, here="127.9.150.2")
+        took = time.monotonic() - begun
+        check("a segment comes while somebody's HEAD of it is unanswered", (status, body) == (200, b"late") and took < LATE / 2, (status, body, took))
+        first.join()
+
+
 def networks(floods):
     """The limits of IPv6 also count lines and what a rented machine has; and an origin gets each client's network."""
     for path, name, addresses, rate, burst in ((path, *one) for path in (["/news/hls/0.m3u8"], ["/news/none.html"]) for one in (("256 networks of a /56", [f"{PREFIX}:13{n:02x}::1" for n in range(256)], 400, 801),
@@ -447,7 +484,7 @@ def cache_floods(program, folder):
     floods = Floods(program, folder)
     try:
         with addresses_of_strangers():
-            for group in (inner, above_rate, segments, recorded, networks, slow_readers):
+            for group in (inner, heads, above_rate, segments, recorded, networks, slow_readers):
                 group(floods)
         said = [line for line in floods.edge.errors() if "signal process started" not in line and not BROKEN_OFF.search(line)]
         check("nginx has nothing to say of all that", not said, said[:3])
