@@ -3,7 +3,7 @@
 "use strict";
 
 const STILL = 3; // targets after which players have emptied their buffers
-const BEHIND = 12; // seconds that a rendition may be behind the others
+const BEHIND = 12; // seconds that a rendition may lag the others
 const FULL = 0.9; // share of its memory limit that an origin may use
 
 /// The values of metrics in Prometheus' text format, each by its rendition's name; by "" if it has none.
@@ -23,7 +23,7 @@ const valuesOf = (metrics, name) => [...metrics.get(name) ?? []];
 const list = (names) => names.join(", ");
 const are = (names) => names.length > 1 ? "are" : "is";
 
-// Renditions that have not begun, that are behind the others, and that are filled.
+// Renditions that have not begun, that lag the others, and that are filled.
 function lookAtEncoders(health, metrics, before) {
     const begun = valuesOf(metrics, "hls_rendition_begun");
     const missing = begun.filter(([, value]) => value === 0).map(([name]) => name);
