@@ -17,6 +17,8 @@ BYTE = "(?:25[0-5]|2[0-4][0-9]|1[0-9]{2}|[1-9]?[0-9])"
 ADDRESS = rf"{BYTE}(?:\.{BYTE}){{3}}:(?:[1-9][0-9]{{0,3}}|[1-5][0-9]{{4}}|6[0-4][0-9]{{3}}|65[0-4][0-9]{{2}}|655[0-2][0-9]|6553[0-5])"
 INNER_PORT = 8079           # the edge's inner server listens at it on loopback (edge/hls_http.conf)
 NAME = "[a-z0-9][a-z0-9_-]{0,23}"
+# (it is an argument of serve, and must be no option)
+RENDITION_NAME = "[A-Za-z0-9_][A-Za-z0-9_-]{0,31}"
 HOST = r"[A-Za-z0-9_]+(?:(?:\.|-+)[A-Za-z0-9_]+)*"
 
 
@@ -111,7 +113,7 @@ def number(values: dict[str, str], name: str, default: int) -> int:
 
 def read_rendition(spec: str) -> Rendition:
     """Reads a rendition as an argument of serve."""
-    if not (found := re.fullmatch(r"([A-Za-z0-9_-]{1,32}):(video|audio):([1-9][0-9]{3,12}):([0-9]{1,6})", spec)):
+    if not (found := re.fullmatch(rf"({RENDITION_NAME}):(video|audio):([1-9][0-9]{{3,12}}):([0-9]{{1,6}})", spec)):
         raise Wrong(f"RENDITIONS: {spec} isn't name:kind:bandwidth:tolerance, with a bandwidth of at least 1000 bits per second")
     return Rendition(found[1], found[2], int(found[3]), int(found[4]))
 

@@ -16,10 +16,10 @@ from typing import NamedTuple
 
 from . import edge
 from .channel_checks import origins_at_edge, places_of
-from .channels import Wrong, address_of_file, name_of, option, read_values
+from .channels import RENDITION_NAME, Wrong, address_of_file, name_of, option, read_values
 from .failures import Failure
 from .origins import Origin, Response
-from .services import RENDITION_NAME, Unit, arguments_of, filled_renditions, read_units, room_of
+from .services import Unit, arguments_of, filled_renditions, read_units, room_of
 from .sites import Site, find_site
 
 TIMEOUT = 3.0               # seconds that an origin or the edge may take for a response

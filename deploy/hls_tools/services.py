@@ -5,7 +5,8 @@ import re
 import subprocess
 from collections.abc import Sequence
 
-RENDITION_NAME = r"[A-Za-z0-9_-]{1,32}"
+from .channels import RENDITION_NAME
+
 FILLED = re.compile(rf"serve: ({RENDITION_NAME}) is (away and is filled|back after)")
 PROPERTIES = ("ActiveState", "Result", "UnitFileState", "ExecMainStatus", "MainPID", "NRestarts", "StatusText")
 Unit = dict[str, str]

@@ -14,7 +14,7 @@ from collections.abc import Iterator
 from typing import NamedTuple
 
 from .certificates import PROGRAM
-from .channels import read_regular
+from .channels import RENDITION_NAME, read_regular
 from .failures import Failure
 
 CHANNEL, BEGUN, ACCEPTED, TRIMMED = 0, 1, 2, 5          # kinds of records
@@ -89,8 +89,7 @@ def renditions_of(body: bytes) -> list[str]:
     for place in range(SPECIFICATIONS, len(body) - RENDITION + 1, RENDITION):
         name, video, bandwidth, tolerance = struct.unpack_from("<32s?QQ", body, place)
         text = name.rstrip(bytes(1)).decode("ascii", "replace")
-        # it becomes an argument of serve, and must be no option
-        if not re.fullmatch(r"[A-Za-z0-9_][A-Za-z0-9_-]{0,31}", text):
+        if not re.fullmatch(RENDITION_NAME, text):
             raise Failure("its log has a rendition without a name")
         found.append(f"{text}:{'video' if video else 'audio'}:{bandwidth}:{tolerance}")
     return found
