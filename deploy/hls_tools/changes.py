@@ -1,17 +1,18 @@
-"""What a restart with a channel's file costs: whether the channel in its journal continues, or an empty one begins."""
+"""What a restart with a channel's file costs: whether the channel in its journal continues, with all that is kept, or an empty one begins."""
 import os
 import re
 import subprocess
 from typing import NamedTuple
 
 from .certificates import PROGRAM
-from .channels import option
+from .channels import number, option
 from .failures import Failure, run
 from .services import arguments_of, read_units
 
 STATE, RUN = "/var/lib/hls_origin", "/run/hls_origin"
 SCRIPTS = os.path.dirname(os.path.dirname(os.path.abspath(__file__)))      # those of the service
 PATIENCE = 300              # seconds that the program may take to read a journal
+KEEP = 3_600_000_000        # --keep of serve, in microseconds, if it isn't given
 LOST = re.compile(r"(?P<why>.*); (?P<seconds>\d+) s would be lost")
 
 
@@ -72,8 +73,18 @@ def kept_seconds(name: str, values: dict[str, str]) -> int | None:
     return found.seconds if found and found.continues else None
 
 
+def cost_of_keep(name: str, values: dict[str, str], kept: int) -> str | None:
+    """Returns what ends by a --keep that is shorter than that of the running process; None if nothing does, or if none is running."""
+    running = running_options(name)
+    before, after = (number({"OPTIONS": options}, "--keep", KEEP) // 1_000_000 for options in (" ".join(running), values.get("OPTIONS", "")))
+    lost = min(kept, before) - after
+    if not running or lost <= 0:
+        return None
+    return f"--keep is {after} s instead of {before} s: {lost} s of recordings end; `systemctl restart hls_origin@{name}` does that"
+
+
 def cost_of(name: str, values: dict[str, str]) -> str | None:
-    """Returns what ends if the channel restarts with these values; None if it continues, or if nothing is kept now."""
+    """Returns what ends if the channel restarts with these values; None if nothing does, or if nothing is kept now."""
     folder, now = option(values, "--journal", ""), journal_now(name)
     if now and folder != now:
         kept = compare(name, running_options(name) or ["--journal", now, *arguments_in(values)])
@@ -82,8 +93,10 @@ def cost_of(name: str, values: dict[str, str]) -> str | None:
         found = compare(name, arguments_in(values))
     else:
         return None
-    if found is None or found.continues:
+    if found is None:
         return None
+    if found.continues:
+        return cost_of_keep(name, values, found.seconds or 0)
     what = "its recordings" if found.seconds is None else f"{found.seconds} s of recordings"
     return f"this begins an empty channel: {what} end ({found.why}); `hls_channel anew {name}` does that"
 

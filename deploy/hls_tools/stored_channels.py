@@ -190,7 +190,8 @@ def served(folder: str) -> Iterator[str]:
         print(f"{folder}: {missing} of {len(whole)} units are damaged or missing, and are left out", file=sys.stderr)
     with tempfile.TemporaryDirectory(prefix="hls_stored-") as spool:
         log = os.path.join(spool, "log")
-        words = [PROGRAM, "serve", "--keep", KEEP, *stored.options, "127.0.0.1:0", *stored.renditions]
+        # (the rates of encoders would hold an hour's units for minutes)
+        words = [PROGRAM, "serve", "--unit-rate", "0", "--keep", KEEP, *stored.options, "127.0.0.1:0", *stored.renditions]
         with open(log, "wb") as file:
             process = subprocess.Popen(words, stdin=subprocess.DEVNULL, stdout=subprocess.DEVNULL, stderr=file)
         try:

@@ -386,6 +386,17 @@ esac
         with self.running("--target", "4", "--journal", self.journal):
             self.assertEqual(changes.cost_of("news", values), said)
 
+    def test_shorter_keep(self):
+        """A zero is missing, or the option is taken out. Without a running process there is nothing to compare with."""
+        values = self.values(f"--target 4 --keep 360000000 --journal {self.journal}")
+        self.assertIsNone(changes.cost_of("news", values))
+        with self.running("--target", "4", "--journal", self.journal):
+            said = "--keep is 360 s instead of 3600 s: 3240 s of recordings end; `systemctl restart hls_origin@news` does that"
+            self.assertEqual(changes.cost_of("news", values), said)
+        with self.running("--target", "4", "--keep", "7200000000", "--journal", self.journal):
+            self.assertIsNone(changes.cost_of("news", self.values(f"--target 4 --journal {self.journal}")))
+            self.assertIn("1800 s of recordings end", changes.cost_of("news", self.values(f"--keep 1800000000 --target 4 --journal {self.journal}")))
+
     def test_no_journal(self):
         """The journal is taken out, or moved."""
         with self.running("--target", "4", "--journal", self.journal):
@@ -545,7 +556,7 @@ class Tool(Served):
         self.channels("a", "b")
         with unittest.mock.patch.object(changes, "cost_of", lambda name, values: "this begins an empty channel" if name == "a" else None):
             text, fault = self.printed(lambda: self.tool.check(["a", "b"]))
-            self.assertEqual((fault.status, str(fault)), (1, "1 channel would begin empty: nothing was changed"))
+            self.assertEqual((fault.status, str(fault)), (1, "1 channel would lose recordings: nothing was changed"))
             self.assertIn("a.conf: this begins an empty channel\n", text)
             _, fault = self.printed(lambda: self.tool.add(["a", "b"]))
         self.assertEqual(fault.status, 1)
