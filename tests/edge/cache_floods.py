@@ -130,7 +130,7 @@ class Late(threading.Thread):
 
     def __init__(self):
         super().__init__(daemon=True)
-        self.listener = socket.create_server(("127.0.0.1", 0))
+        self.listener, self.asked = socket.create_server(("127.0.0.1", 0)), []
         self.port = self.listener.getsockname()[1]
         self.start()
 
@@ -141,7 +141,9 @@ class Late(threading.Thread):
 
     def answer(self, near):
         with near:
-            is_head = near.recv(65536).startswith(b"HEAD")
+            line = near.recv(65536).partition(b" HTTP/")[0].decode()
+            self.asked.append(line)
+            is_head = line.startswith("HEAD")
             time.sleep(LATE if is_head else 0)
             head = b"HTTP/1.1 200 OK\r\nContent-Type: video/mp4\r\nCache-Control: max-age=86400\r\nContent-Length: 4\r\nConnection: close\r\n\r\n"
             near.sendall(head + b"late" * (not is_head))
@@ -418,11 +420,28 @@ def recorded(floods):
 
 
 def heads(floods):
-    """A HEAD stores nothing, so a viewer that wants the same segment doesn't wait for it."""
+    """A HEAD stores nothing: a viewer that wants the same segment doesn't wait for it, and the channel may store as much as without."""
+    def path_of(n):
+        return f"/hls/0123456789abcdef/0/{n * 4}-{n * 4 + 3}.m4s"
+
+    def head_of(n, here):
+        one = threading.Thread(target=floods.edge.raw, args=("/late" + path_of(n),), kwargs={"here": here, "method": "HEAD"})
+        one.start()
+        return one
+
+    several, fetched = [], []
+    for n in range(84):
+        several.append(head_of(100 + n, f"127.9.151.{n % 7}"))
+        time.sleep(0.03)
+        if n >= 60 and n % 4 == 0:
+            statuses = [floods.edge.raw("/late" + path_of(n), here="127.9.150.3")[0] for _ in range(2)]
+            fetched.append((statuses, floods.late.asked.count("GET " + path_of(n))))
+    check("segments are stored beside many HEADs of others", fetched == [([200, 200], 1)] * 6, fetched)
+    for one in several:
+        one.join()
     for n in range(3):
-        path = f"/late/hls/0123456789abcdef/0/{n * 4}-{n * 4 + 3}.m4s"
-        first = threading.Thread(target=floods.edge.raw, args=(path,), kwargs={"here": "127.9.150.1", "method": "HEAD"})
-        first.start()
+        path = "/late" + path_of(n)
+        first = head_of(n, "127.9.150.1")
         time.sleep(0.3)
         begun = time.monotonic()
         status, _, body = floods.edge.raw(path, here="127.9.150.2")
