@@ -9,6 +9,9 @@ import http.server
 import io
 import json
 import os
+import re
+import shlex
+import socket
 import ssl
 import subprocess
 import sys
@@ -52,6 +55,17 @@ def metrics(**changed):
         key = next((one for one in values if one.startswith(f"hls_rendition_{short}{{") and f'"{rendition}"' in one), name) if rendition else name
         values[key] = value
     return "".join(f"# TYPE x gauge\n{name} {value}\n" for name, value in values.items()).encode()
+
+
+def trickle(listener):
+    """Answers one request with a byte every fifth of a second."""
+    near, _ = listener.accept()
+    with near, contextlib.suppress(OSError):
+        near.recv(65536)
+        near.sendall(b"HTTP/1.1 200 OK\r\nContent-Length: 9999\r\n\r\n")
+        for _ in range(50):
+            time.sleep(0.2)
+            near.sendall(b"a")
 
 
 class Served(unittest.TestCase):
@@ -261,6 +275,48 @@ class Looking(Served):
     def test_standby(self):
         self.conf(self.text + 'STANDBY="127.0.0.1:9"\n')
         self.one("standby", "127.0.0.1:9 doesn't answer", "ssh 127.0.0.1 hls_channel status news")
+
+    def test_false_names(self):
+        """What answers may be another program. A name that no rendition may have is in no line, and in no command that an operator types."""
+        names = ("$(reboot)", "`reboot`", "en; reboot", "en' -x", "en\\", "--help", "-n", "", "en\n", "en\x1b[2J", "en\xff", "e" * 33, "../en")
+        for metric, value in (("begun", 0), ("end_seconds", 1796084000)):
+            lines = "".join(f'hls_rendition_{metric}{{rendition="2",name="{name}"}} {value}\n' for name in names)
+            self.origin["/metrics"] = (200, metrics() + lines.encode("latin-1"))
+            self.assertEqual(self.look().faults, [], metric)
+        lines = "".join(f"serve: {name} is away and is filled, 3 fillers so far\n" for name in names)
+        self.stand_in("journalctl", f"printf '%s' {shlex.quote(lines)}")
+        self.assertEqual(services.filled_renditions("news"), [])
+
+    def test_false_numbers(self):
+        """Numbers that no origin has, in metrics and in lists, end neither a channel's status nor that of the others."""
+        for number in ("9" * 5000, "-1", "1.5", "x"):
+            found = self.look_beside(metrics(), LIST.format(first=number))
+            self.assertEqual([[fault.kind for fault in one.faults] for one in found], [[], []], number[:9])
+        self.conf(self.text.replace('EDGE="/news"\n', ""))
+        for number in ("9" * 400, "-1", "NaN", "+Inf", "1e999", "0x10", "1 2", "1." + "9" * 400, "$(reboot)"):
+            found = self.look_beside(metrics().replace(b"hls_log_entries 1234", f"hls_log_entries {number}".encode()))
+            self.assertEqual([(one.version, one.faults) for one in found], [(0, []), (1234, [])], number[:9])
+        for name in ("hls_list_still_seconds", "process_virtual_memory_bytes", "hls_rendition_end_seconds"):
+            found = self.look_beside(re.sub(rf"^({name}\S*) .*$".encode(), rb"\1 " + b"9" * 400, metrics(), flags=re.M))
+            self.assertEqual([one.faults for one in found], [[], []], name)
+
+    def look_beside(self, body, text=LIST.format(first=100)):
+        """Returns the health of this channel, with these metrics and a list, and that of another one, which is well."""
+        well = self.write("well.conf", f'ADDRESS="127.0.0.1:{self.port}"\nRENDITIONS="v:video:3000000:0"\n')
+        self.edge["/news/hls/0.m3u8"] = (200, text.encode())
+        false = self.serve({"/metrics": (200, body), "/hls/0.m3u8": (200, text.encode())})
+        path = self.write("false/news.conf", self.text.replace(f"127.0.0.1:{self.port}", f"127.0.0.1:{false}"))
+        with unittest.mock.patch.object(health, "find_site", lambda: self.site), unittest.mock.patch.object(health, "read_units", lambda names: self.units), \
+             unittest.mock.patch.object(edge, "read_channels", lambda path: ("news",)):
+            return health.look([path, well])
+
+    def test_slow_answer(self):
+        """An origin that never ends its answer has no more than the time of a request."""
+        with socket.create_server(("127.0.0.1", 0)) as listener, unittest.mock.patch.object(health, "TIMEOUT", 0.5):
+            threading.Thread(target=trickle, args=(listener,), daemon=True).start()
+            begun = time.monotonic()
+            self.assertIsNone(health.ask_metrics(f"127.0.0.1:{listener.getsockname()[1]}"))
+            self.assertLess(time.monotonic() - begun, 2)
 
     def test_table(self):
         well = self.look()

@@ -7,6 +7,7 @@ They need no program but a stand-in for it, and no network but this machine's.
 import base64
 import contextlib
 import http.server
+import io
 import json
 import os
 import re
@@ -169,6 +170,27 @@ class Archives(unittest.TestCase):
         os.mkdir(os.path.join(self.folder, "0" * 15 + "9"))
         with open(os.devnull, "w", encoding="ascii") as nowhere, contextlib.redirect_stderr(nowhere):
             self.same_as_whole(2)
+
+    def test_false_numbers(self):
+        """A piece whose certificate or playlist has numbers that are none is left out, and the others are joined."""
+        self.piece(0, 4)
+        self.piece(4, 8)
+        for name, old, new in (("0.m3u8", "TARGETDURATION:4\n", "TARGETDURATION:{}\n"), ("certificate.txt", "places 2\n", "places {}\n"), ("certificate.txt", "8 8 8 0 0 ", "8 8 {} 0 0 ")):
+            path = os.path.join(self.folder, f"{4:016}", name)
+            whole = archive_lists.read(path)
+            self.assertIn(old, whole)
+            for number in ("9" * 5000, "-1", "", "1.5", "0x10", "$(reboot)", "\x1b[2J"):
+                self.write(path, whole.replace(old, new.format(number)))
+                said = io.StringIO()
+                with self.subTest((new, number[:9])), contextlib.redirect_stderr(said):
+                    self.assertEqual(self.join()[0]["0.m3u8"].count("#EXTINF"), 1)
+                    self.assertRegex(said.getvalue(), f"^hls_archive: {4:016} isn't a complete piece, and is left out: [ -~]{{1,200}}\n$")
+            self.write(path, whole)
+        self.assertEqual(self.join()[0]["0.m3u8"].count("#EXTINF"), 2)
+
+    def write(self, path, text):
+        with open(path, "w", encoding="ascii") as file:
+            file.write(text)
 
     def test_changed(self):
         """A playlist that was changed or lost is made again from the pieces."""
@@ -468,6 +490,13 @@ class Client(unittest.TestCase):
         with self.assertRaises(Failure):
             programmes.refusal_of(origins.Origin(self.address), wish)
 
+    def test_false_refusals(self):
+        """A refusal's name becomes an argument of the program, and a line."""
+        wish = programmes.Wish("0", "4000000")
+        for name in (b"--help", b"-x", b"$(reboot)", b"NotYet; reboot", b"NotYet\nreboot", b"Not\x1b[2JYet", b"\xff", b"N" * 41, b""):
+            self.replies[wish.path("certificate.txt")] = [(404, {}, b"refused " + name + b"\n")]
+            with self.subTest(name), unittest.mock.patch.object(programmes, "explain", self.fail), self.assertRaisesRegex(Failure, "^[ -~]{1,300}$"):
+                programmes.request_certificate(origins.Origin(self.address), wish)
 
 
 class Failures(unittest.TestCase):
