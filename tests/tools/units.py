@@ -1,4 +1,5 @@
-"""Unit tests of deploy/hls_tools: readers of boxes, playlists, certificates and channel files, archives, the client, and a channel's checks.
+"""Unit tests of deploy/hls_tools: readers of boxes, playlists, certificates, journals and channel files, archives, the client, and a channel's
+checks.
 
     bash tests/lint_tools
 
@@ -12,6 +13,9 @@ import json
 import os
 import re
 import shutil
+import signal
+import stat
+import struct
 import subprocess
 import sys
 import tempfile
@@ -23,7 +27,7 @@ sys.path.insert(0, os.path.join(os.path.dirname(os.path.abspath(__file__)), ".."
 from scripts import DEPLOY, load_script, use_tools  # noqa: E402
 
 use_tools()
-from hls_tools import archive_lists, caches, certificates, channel_checks, channels, edge, origins, passwords, programmes  # noqa: E402
+from hls_tools import archive_lists, caches, certificates, channel_checks, channels, edge, origins, passwords, programmes, stored_channels  # noqa: E402
 from hls_tools.boxes import boxes, count_units, init_length  # noqa: E402
 from hls_tools.failures import Failure, run  # noqa: E402
 
@@ -497,6 +501,116 @@ class Client(unittest.TestCase):
             self.replies[wish.path("certificate.txt")] = [(404, {}, b"refused " + name + b"\n")]
             with self.subTest(name), unittest.mock.patch.object(programmes, "explain", self.fail), self.assertRaisesRegex(Failure, "^[ -~]{1,300}$"):
                 programmes.request_certificate(origins.Origin(self.address), wish)
+
+
+def record(number, body):
+    """A record of a log."""
+    return struct.pack("<IQ", len(body), stored_channels.checksum(number, body)) + body
+
+
+class Journals(unittest.TestCase):
+    """A journal's folder is another user's: what isn't a regular file there is refused or left out at once, and never waited for."""
+
+    PIECES = (b"first unit", b"second")
+
+    def setUp(self):
+        temporary = tempfile.TemporaryDirectory()
+        self.addCleanup(temporary.cleanup)
+        self.folder, self.elsewhere = (os.path.join(temporary.name, name) for name in ("journal", "elsewhere"))
+        self.log, self.media = os.path.join(self.folder, "log"), os.path.join(self.folder, "media", "0", "00000")
+        os.makedirs(os.path.dirname(self.media))
+        self.write(self.media, b"init" + b"".join(self.PIECES))
+        self.write(self.log, b"".join(self.records()))
+        signal.signal(signal.SIGALRM, late)
+
+    def write(self, path, content):
+        with open(path, "wb") as file:
+            file.write(content)
+
+    def records(self, name=b"v720"):
+        """The records of a channel of one rendition, whose init section and units the media have."""
+        channel = bytes(188) + struct.pack("<QQ?Q", 4, 3840000, True, 0) + bytes(213 - 188 - 25) + struct.pack("<32s?QQ", name, True, 3000000, 0)
+        bodies, offset = [channel, bytes([stored_channels.BEGUN, 0, 0, 0]) + b"init"], 4
+        for piece in self.PIECES:
+            bodies.append(struct.pack("<BBBBIQ", stored_channels.ACCEPTED, 0, 0, 0, len(piece), stored_channels.checksum(offset, piece)))
+            offset += len(piece)
+        return [record(number, body) for number, body in enumerate(bodies)]
+
+    def put(self, path, kind):
+        """Puts something that isn't a file in place of one, which is moved elsewhere."""
+        os.rename(path, self.elsewhere)
+        if kind == "FIFO":
+            os.mkfifo(path)
+        elif kind == "folder":
+            os.mkdir(path)
+        elif kind == "device":
+            os.mknod(path, 0o600 | stat.S_IFCHR, os.makedev(1, 5))
+        else:
+            os.symlink({"link": self.elsewhere, "link to a device": "/dev/zero", "link to nothing": "/nowhere"}[kind], path)
+
+    def put_back(self, path):
+        (os.rmdir if os.path.isdir(path) and not os.path.islink(path) else os.remove)(path)
+        os.rename(self.elsewhere, path)
+
+    def kinds(self):
+        return ["FIFO", "folder", "link", "link to a device", "link to nothing", *(["device"] if os.geteuid() == 0 else [])]
+
+    def pieces(self):
+        return [stored_channels.read_unit(self.folder, unit) for unit in stored_channels.read_log(self.log).units]
+
+    def test_whole(self):
+        found = stored_channels.read_log(self.log)
+        self.assertEqual((found.options, found.renditions), (["--target", "4", "--preferred", "3840000", "--epoch", "1970-01-01T00:00:00Z"], ["v720:video:3000000:0"]))
+        self.assertEqual((found.inits, self.pieces()), ({0: b"init"}, list(self.PIECES)))
+
+    def test_media(self):
+        for kind in self.kinds():
+            self.put(self.media, kind)
+            with self.subTest(kind), within_a_second():
+                self.assertEqual(self.pieces(), [None, None])
+            self.put_back(self.media)
+        self.assertEqual(self.pieces(), list(self.PIECES))
+
+    def test_log(self):
+        for kind in self.kinds():
+            self.put(self.log, kind)
+            with self.subTest(kind), within_a_second(), self.assertRaisesRegex(Failure, f"^{self.folder}: "), stored_channels.served(self.folder):
+                pass
+            self.put_back(self.log)
+
+    def test_folders(self):
+        """Without the folder of the media, or with a file in its place, each unit is missing."""
+        os.rename(os.path.join(self.folder, "media"), self.elsewhere)
+        self.assertEqual(self.pieces(), [None, None])
+        self.write(os.path.join(self.folder, "media"), b"")
+        self.assertEqual(self.pieces(), [None, None])
+
+    def test_names(self):
+        """A rendition's name becomes an argument of serve."""
+        for name in (b"--journal", b"-x", b"", b"a b", b"a\n", b"a:video", b"\xff", b"\x1b[2J", b"a/b"):
+            self.write(self.log, b"".join(self.records(name)))
+            with self.subTest(name), self.assertRaisesRegex(Failure, "a rendition without a name"):
+                stored_channels.read_log(self.log)
+
+    def test_many_records(self):
+        """A log of more records than an origin writes isn't read to its end."""
+        log = b"".join(record(number, b"") for number in range(20))
+        with unittest.mock.patch.object(stored_channels, "RECORDS", 9):
+            self.assertEqual(len(list(stored_channels.bodies_of(log))), 10)
+
+
+def late(*_):
+    raise AssertionError("it took a second")
+
+
+@contextlib.contextmanager
+def within_a_second():
+    """Fails what takes a second, also where it waits for a FIFO."""
+    signal.setitimer(signal.ITIMER_REAL, 1)
+    try:
+        yield
+    finally:
+        signal.setitimer(signal.ITIMER_REAL, 0)
 
 
 class Failures(unittest.TestCase):
