@@ -1,5 +1,5 @@
-"""Unit tests of deploy/hls_tools: readers of boxes, playlists, certificates, journals and channel files, archives, the client, and a channel's
-checks.
+"""Unit tests of deploy/hls_tools: readers of boxes, playlists, certificates, journals and channel files, archives, the client, a channel's
+checks; and of scripts of the origin's service.
 
     bash tests/lint_tools
 
@@ -639,6 +639,85 @@ class Failures(unittest.TestCase):
         said, calls = self.ends("signal", "ABRT", {"RUNNER": "foreground"})
         self.assertIn("news has failed three times (exit status ABRT)", said)
         self.assertEqual(calls, "")
+
+
+@unittest.skipIf(os.geteuid(), "as root, whose services' scripts these are")
+class ClosedFolders(unittest.TestCase):
+    """What a process left in its state directory, closed to everybody: the scripts of hls_origin@.service remove it as the directory's owner."""
+
+    OWNER = 65534
+
+    def setUp(self):
+        temporary = tempfile.TemporaryDirectory()
+        self.addCleanup(temporary.cleanup)
+        self.state, self.tools, self.runtime = (os.path.join(temporary.name, name) for name in ("state", "tools", "run"))
+        for path in (self.state, self.tools, self.runtime):
+            os.mkdir(path)
+        os.chmod(temporary.name, 0o755)
+        for name in ("as_owner", "set_aside", "prepare_journal", "note_served"):
+            shutil.copy(os.path.join(DEPLOY, name), self.tools)
+        for name in ("channel", "channel.aside"):
+            self.write(f"{name}/log", name)
+            self.write(f"{name}/media/0/00000", name)
+
+    def write(self, name, text):
+        path = os.path.join(self.state, name)
+        os.makedirs(os.path.dirname(path), exist_ok=True)
+        with open(path, "w", encoding="ascii") as file:
+            file.write(text)
+
+    def read(self, name):
+        with open(os.path.join(self.state, name), encoding="ascii") as file:
+            return file.read()
+
+    def close(self, *names):
+        """Gives all to the owner, and closes what has these names, in their order."""
+        subprocess.run(["chown", "-R", f"{self.OWNER}:{self.OWNER}", self.state], check=True)
+        for name in names:
+            os.chmod(os.path.join(self.state, name), 0)
+
+    def call(self, *words, **more):
+        """Returns the status of a script, and what it prints."""
+        environment = {"PATH": f"{self.tools}:{os.environ['PATH']}", "STATE_DIRECTORY": self.state, "RUNTIME_DIRECTORY": self.runtime, **more}
+        done = subprocess.run([os.path.join(self.tools, words[0]), *words[1:]], env=environment, capture_output=True, text=True)
+        return done.returncode, done.stdout + done.stderr
+
+    def test_set_aside(self):
+        self.write("channel.aside.1/media/0/00000", "old")
+        self.close("channel.aside.1/media/0", "channel.aside.1/media", "channel.aside.1")
+        self.assertEqual(self.call("as_owner", os.path.join(self.tools, "set_aside"), "channel"), (0, ""))
+        self.assertEqual(sorted(os.listdir(self.state)), ["channel.aside", "channel.aside.1"])
+        self.assertEqual((self.read("channel.aside/log"), self.read("channel.aside.1/log")), ("channel", "channel.aside"))
+
+    def test_prepare_journal(self):
+        """Before an empty channel, what a start that was interrupted left is in the way, too."""
+        for name in ("channel.next/media/0/x", "channel.next/x/y", "channel.aside.1/media/0/00000"):
+            self.write(name, "old")
+        self.close("channel.next/media/0", "channel.next/media", "channel.next/x", "channel.next", "channel.aside.1/media/0", "channel.aside.1")
+        status, text = self.call("prepare_journal", "news", ONCE="--anew")
+        self.assertEqual((status, text.splitlines()), (0, [f"prepare_journal: {self.state}/channel.aside.1, the oldest journal of news that was set aside, is removed",
+                                                           f"prepare_journal: the journal of news is set aside as {self.state}/channel.aside"]))
+        self.assertEqual(sorted(os.listdir(self.state)), ["channel", "channel.aside", "channel.aside.1"])
+        self.assertEqual([self.read(f"{name}/log") for name in ("channel", "channel.aside", "channel.aside.1")], ["channel", "channel", "channel.aside"])
+        self.assertEqual((os.listdir(os.path.join(self.state, "channel", "media")), self.read("channel.aside/media/0/00000")), ([], "channel"))
+
+    def test_own_journal(self):
+        """The journal that a start reads is opened again, and a line says so."""
+        self.close("channel/media/0/00000", "channel/media/0", "channel/media", "channel")
+        status, text = self.call("prepare_journal", "news")
+        self.assertEqual((status, text), (0, f"prepare_journal: the journal of news belonged to another user, or was closed to its own: chown -R --reference={self.state} {self.state}/channel\n"))
+        self.assertEqual(self.call("as_owner", "cat", "channel/media/0/00000"), (0, "channel"))
+        self.assertEqual(self.call("prepare_journal", "news"), (0, ""))
+
+    def test_note_served(self):
+        for name in ("served", "served.new"):
+            self.write(f"{name}/x/y", "old")
+        self.close("served/x", "served", "served.new/x", "served.new")
+        with open(os.path.join(self.runtime, "news.served"), "w", encoding="ascii") as file:
+            file.write("segments 7\nlisted 9\n")
+        self.assertEqual(self.call("note_served", "news"), (0, ""))
+        self.assertEqual(self.read("served"), "segments 7\nlisted 9\n")
+        self.assertFalse(os.path.lexists(os.path.join(self.state, "served.new")))
 
 
 if __name__ == "__main__":
