@@ -20,6 +20,7 @@ import subprocess
 import sys
 import tempfile
 import threading
+import time
 import unittest
 import unittest.mock
 
@@ -718,6 +719,49 @@ class ClosedFolders(unittest.TestCase):
         self.assertEqual(self.call("note_served", "news"), (0, ""))
         self.assertEqual(self.read("served"), "segments 7\nlisted 9\n")
         self.assertFalse(os.path.lexists(os.path.join(self.state, "served.new")))
+
+
+# A program that listens, accepts nothing, and takes the given milliseconds of a processor in each second.
+SILENT = """
+import socket, sys, time
+listener, begun, taken = socket.create_server(("127.0.0.1", 0)), time.monotonic(), time.process_time()
+print(listener.getsockname()[1], flush=True)
+while True:
+    time.sleep(0.5)
+    while time.process_time() - taken < float(sys.argv[1]) / 1000 * (time.monotonic() - begun):
+        pass
+"""
+
+
+class Watched(unittest.TestCase):
+    """deploy/watch_origin beside programs that accept no connection: it kills one that does nothing, and none that still works a little."""
+
+    def silent(self, milliseconds):
+        """Starts a program that is watched, with its watcher."""
+        process = subprocess.Popen([sys.executable, "-c", SILENT, str(milliseconds)], stdout=subprocess.PIPE, text=True)
+        self.addCleanup(process.stdout.close)
+        self.addCleanup(process.wait)
+        self.addCleanup(process.kill)
+        words = [os.path.join(DEPLOY, "watch_origin"), "--watch", "news", str(process.pid), f"127.0.0.1:{int(process.stdout.readline())}", "--journal", "x"]
+        watcher = subprocess.Popen(words, stderr=subprocess.PIPE, text=True)
+        self.addCleanup(watcher.stderr.close)
+        self.addCleanup(watcher.wait)
+        self.addCleanup(watcher.kill)
+        return process, watcher
+
+    def test_silent(self):
+        # a little less than an idle origin whose connections are all held takes: 50 ms in 20 s
+        working, idle, stopped = (self.silent(milliseconds) for milliseconds in (2.2, 0, 2.2))
+        stopped[0].send_signal(signal.SIGSTOP)
+        for process, watcher in (idle, stopped):
+            self.assertEqual(process.wait(40), -signal.SIGKILL)
+            self.assertRegex(watcher.communicate(timeout=5)[1], "^watch_origin: the origin at [^ ]+ hasn't answered for 20 s, and does nothing: it is killed, and restarted\n$")
+        # its watcher has looked as often by then
+        time.sleep(2)
+        self.assertEqual((working[0].poll(), working[1].poll()), (None, None))
+        working[0].kill()
+        working[0].wait()
+        self.assertNotIn("is killed", working[1].communicate(timeout=20)[1])
 
 
 if __name__ == "__main__":
