@@ -4,6 +4,7 @@ routes of operators and encoders.
 Not a script: tests/edge/attacks runs it on its site, whose channel `news` is at / and `sport` at /sport.
 """
 import base64
+import contextlib
 import json
 import os
 import re
@@ -196,6 +197,7 @@ def doors(site):
     edge.set_passwords("sport")
     check("and with them again", edge.edge().returncode == 0 and edge.ask("GET", "/sport/origin/1/status", user=OPERATOR)[0] == 200)
     held(site)
+    from_many_addresses(site)
     flooded(site)
     known_name(site)
     one_rendition(site)
@@ -231,6 +233,44 @@ def held(site):
     finally:
         for s in lines:
             s.close()
+
+
+def from_many_addresses(site):
+    """A user's connections, ten from each address: as many as a site needs, and no more, however many addresses there are."""
+    edge, lines, last = site.edge, [], "127.9.77.17"
+
+    def hold(first, count):
+        for n in range(first, first + count):
+            s = socket.create_connection(("127.0.0.1", edge.open), timeout=20, source_address=(f"127.9.77.{n // 10 + 1}", 0))
+            s.sendall(request("/origin/1/ingest/0", authorized(ENCODER) + "Content-Length: 99999999\r\n", "PUT").encode())
+            lines.append(s)
+        time.sleep(1)
+        return [answered_so_far(s) for s in lines[first:]]
+
+    def asked(target, user, method):
+        return edge.raw(target, authorized(user) + "Content-Length: 0\r\n", here=last, method=method)[0]
+    site.wire.fault = "silent"
+    try:
+        found = hold(0, 100)
+        check("a user has 100 connections from ten addresses", found == [None] * 100, {one: found.count(one) for one in set(found)})
+        found = hold(100, 60)
+        check("and 28 more, wherever they come from", (found.count(None), found.count(429)) == (28, 32), {one: found.count(one) for one in set(found)})
+        found = [asked("/origin/2/ingest/9", ENCODER, "PUT"), asked("/origin/2/status", OPERATOR, "GET"), asked("/sport/origin/1/ingest/9", ENCODER, "PUT"), edge.raw("/sport/hls/master.m3u8", here=last)[0]]
+        check("another user, the same name in another channel, and viewers have their own", found == [429, 200, 404, 200], found)
+    finally:
+        site.wire.fault = None
+        for s in lines:
+            s.close()
+    time.sleep(0.5)
+    check("once they are closed, the user has others", asked("/origin/2/ingest/9", ENCODER, "PUT") == 404)
+
+
+def answered_so_far(s):
+    """The status of the response that a connection has so far, which stays unread; None without one."""
+    s.setblocking(False)
+    with contextlib.suppress(BlockingIOError):
+        return int(s.recv(100, socket.MSG_PEEK)[9:12] or 0)
+    return None
 
 
 def flooded(site):

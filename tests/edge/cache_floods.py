@@ -8,6 +8,7 @@ beside the ones of a machine of 4 GB.
 import contextlib
 import os
 import re
+import resource
 import socket
 import subprocess
 import sys
@@ -48,7 +49,7 @@ class Floods:
         body = init_section() + b"".join(unit(number * TICKS // 4, TICKS // 4, LARGE, number) for number in range(UNITS))
         assert ask(self.large.port, "PUT", "/ingest/0", body)[0] == 200
         assert ask(self.large.port, "PUT", "/ingest/1", media_of(0, 1, UNITS // 4))[0] == 200
-        self.mounted, self.six, self.heads, self.late = [], free_port(), Heads(), Late()
+        self.mounted, self.six, self.heads, self.late, self.endless = [], free_port(), Heads(), Late(), Endless()
         self.edge = self.make_edge()
         # with the rights of its service
         words = ["setpriv", "--reuid", "www-data", "--regid", "www-data", "--clear-groups", "--bounding-set=-all", "--no-new-privs", os.path.join(ROOT, "deploy", "close_slow_readers")]
@@ -61,7 +62,7 @@ class Floods:
         sized = caches.sized(text, lambda cache: SYSTEMS.get(cache, SYSTEMS[""]) << 20)
         changes = [(old, new) for old, new in zip(text.split("\n"), sized.split("\n")) if old != new]
         six = f"server {{ listen [::]:{self.six}; server_name localhost; include {self.folder}/edge/nginx/hls_server.conf; location / {{ return 404; }} }}\n"
-        edge = Edge(self.folder, f"news /news 127.0.0.1:{self.news.port}\nlarge /large 127.0.0.1:{self.large.port}\nheads /heads 127.0.0.1:{self.heads.port}\nlate /late 127.0.0.1:{self.late.port}\n", more=six, changes=changes)
+        edge = Edge(self.folder, f"news /news 127.0.0.1:{self.news.port}\nlarge /large 127.0.0.1:{self.large.port}\nheads /heads 127.0.0.1:{self.heads.port}\nlate /late 127.0.0.1:{self.late.port}\nendless /endless 127.0.0.1:{self.endless.port}\n", more=six, changes=changes)
         edge.stop()
         for name, size in SYSTEMS.items():
             path = os.path.join(edge.folder, "cache", name)
@@ -147,6 +148,28 @@ class Late(threading.Thread):
             time.sleep(LATE if is_head else 0)
             head = b"HTTP/1.1 200 OK\r\nContent-Type: video/mp4\r\nCache-Control: max-age=86400\r\nContent-Length: 4\r\nConnection: close\r\n\r\n"
             near.sendall(head + b"late" * (not is_head))
+
+
+class Endless(threading.Thread):
+    """An origin that begins each response, and ends none before it is released."""
+
+    def __init__(self):
+        super().__init__(daemon=True)
+        self.listener, self.held = socket.create_server(("127.0.0.1", 0), backlog=2000), []
+        self.port = self.listener.getsockname()[1]
+        self.start()
+
+    def run(self):
+        while True:
+            near, _ = self.listener.accept()
+            near.recv(65536)
+            near.sendall(b"HTTP/1.1 200 OK\r\nContent-Type: video/mp4\r\nCache-Control: max-age=86400\r\nConnection: close\r\n\r\na")
+            self.held.append(near)
+
+    def release(self):
+        for near in self.held:
+            near.close()
+        self.held = []
 
 
 class Viewer(threading.Thread):
@@ -273,6 +296,39 @@ def above_rate(floods):
     check("it holds at most eight of an origin's connections", statuses.count("200") <= 10 and "429" in statuses, statuses)
     statuses = hold(floods, [(f"{PREFIX}:15{n:02x}::1", path) for n, path in enumerate(floods.made_up()[60:200])])
     check("140 networks of a /56 don't hold a place each", statuses[-60:].count("429") > 20, statuses)
+
+
+def of_channel(floods):
+    """Segments of one channel that aren't cached, eight at once for each address: 40 addresses get all, and no number of addresses holds more than 1024."""
+    most = resource.getrlimit(resource.RLIMIT_NOFILE)[1]
+    resource.setrlimit(resource.RLIMIT_NOFILE, (most, most))
+    origin, begun, lines = floods.endless, time.monotonic(), []
+    try:
+        refused = request_of_many(floods, lines, 40)
+        check("40 addresses have eight segments each that aren't cached", (len(origin.held), refused) == (320, 0), (len(origin.held), refused))
+        refused = request_of_many(floods, lines, 120)
+        # the first ones, and twelve a second, are cached, and don't count
+        admitted = 1024 + 25 + 12 * (time.monotonic() - begun)
+        check("160 addresses have 1024 together", 1024 <= len(origin.held) <= admitted and len(origin.held) + refused == 1280, (len(origin.held), refused, admitted))
+    finally:
+        origin.release()
+        for s in lines:
+            s.close()
+    time.sleep(1)
+
+
+def request_of_many(floods, lines, count):
+    """Requests eight segments from each of further addresses, and waits until each request is with the origin or refused. Returns how many are refused."""
+    first = len(lines) // 8
+    for n in range(first * 8, (first + count) * 8):
+        s = socket.create_connection(("127.0.0.1", floods.edge.open), timeout=20, source_address=(f"127.9.160.{n // 8 + 1}", 0))
+        s.sendall(abuse.request(f"/endless/hls/0123456789abcdef/0/{n * 4}-{n * 4 + 3}.m4s").encode())
+        lines.append(s)
+    own, refused, ends = lines[first * 8:], 0, time.monotonic() + 4
+    while len(floods.endless.held) + refused < len(lines) and time.monotonic() < ends:
+        time.sleep(0.1)
+        refused = [abuse.answered_so_far(s) for s in own].count(429)
+    return refused
 
 
 def hold(floods, requests):
@@ -503,7 +559,7 @@ def cache_floods(program, folder):
     floods = Floods(program, folder)
     try:
         with addresses_of_strangers():
-            for group in (inner, heads, above_rate, segments, recorded, networks, slow_readers):
+            for group in (inner, heads, above_rate, of_channel, segments, recorded, networks, slow_readers):
                 group(floods)
         said = [line for line in floods.edge.errors() if "signal process started" not in line and not BROKEN_OFF.search(line)]
         check("nginx has nothing to say of all that", not said, said[:3])
