@@ -41,7 +41,7 @@ class Rendition(NamedTuple):
 def read_regular(path: str, limit: int, place: int = 0, flags: int = 0) -> bytes:
     """Returns what a regular file has from a place on. A pipe or a device, which might never answer, is an OSError. With O_NOFOLLOW a link
     isn't followed: another user's link may lead to a device that does something once it is opened."""
-    with open(os.open(path, os.O_RDONLY | os.O_NONBLOCK | os.O_CLOEXEC | flags), "rb") as file:
+    with open(path, "rb", opener=lambda *_: os.open(path, os.O_RDONLY | os.O_NONBLOCK | os.O_CLOEXEC | flags)) as file:
         if not stat.S_ISREG(os.fstat(file.fileno()).st_mode):
             raise OSError("it isn't a regular file")
         file.seek(place)

@@ -91,6 +91,8 @@ class Origin:
         if url.scheme == "https":
             kind = functools.partial(http.client.HTTPSConnection, context=trust(authority))
         self.connection = kind(url.hostname or "", url.port, timeout=timeout)
+        self.line: socket.socket | None = None
+        self.is_late = False
 
     def connect_at(self, place: tuple[str, int], context: ssl.SSLContext | None) -> None:
         """Has requests go to this address, whatever the host's name resolves to."""
@@ -136,23 +138,25 @@ class Origin:
         return {429: 1.0, 502: PAUSE, 504: PAUSE}.get(response.status)
 
     def _once(self, path: str, limit: int, seconds: float) -> Response:
-        late = threading.Timer(seconds, self._cut)
+        late, self.is_late = threading.Timer(seconds, self._cut), False
         late.start()
         try:
             self.connection.request("GET", self.prefix + path, headers=self.headers)
+            # the connection forgets it if the response ends with it
+            self.line = self.connection.sock
             reply = self.connection.getresponse()
             content = reply.read(limit + 1)
             if len(content) > limit:
                 self.connection.close()
                 raise Failure(f"{self.name}: {path} has more than {limit} bytes: this isn't an origin")
-            if reply.length or not late.is_alive():
+            if reply.length or self.is_late:
                 raise http.client.IncompleteRead(content)
             if reply.will_close or not reply.isclosed():
                 self.connection.close()
             return Response(reply.status, reply.headers, content)
         except BROKEN:
             self.connection.close()
-            if not late.is_alive():
+            if self.is_late:
                 raise Failure(f"{self.name} doesn't answer: {path} took more than {seconds:.0f} s") from None
             raise
         finally:
@@ -160,8 +164,10 @@ class Origin:
 
     def _cut(self) -> None:
         """Ends a response that takes too long."""
-        with contextlib.suppress(OSError, AttributeError):
-            self.connection.sock.shutdown(socket.SHUT_RDWR)
+        self.is_late = True
+        with contextlib.suppress(OSError):
+            if self.line:
+                self.line.shutdown(socket.SHUT_RDWR)
 
     def text(self, path: str) -> str:
         """Returns the text at a path. Failure if there is none."""

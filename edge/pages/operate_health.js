@@ -11,7 +11,7 @@ export function readMetrics(text) {
     const found = new Map();
     for (const [, metric, labels, value] of text.matchAll(/^(\w+)(?:\{([^}\n]*)\})? ([0-9]{1,20}(?:\.[0-9]{1,20})?(?:e-[0-9]{1,3})?)$/gm)) {
         const name = /\bname="([^"]*)"/.exec(labels ?? "")?.[1] ?? "";
-        if (!/^[A-Za-z0-9_-]{0,32}$/.test(name)) continue;
+        if (!/^(?:[A-Za-z0-9_][A-Za-z0-9_-]{0,31})?$/.test(name)) continue;
         if (!found.has(metric)) found.set(metric, new Map());
         found.get(metric).set(name, Number(value));
     }

@@ -57,12 +57,12 @@ def metrics(**changed):
     return "".join(f"# TYPE x gauge\n{name} {value}\n" for name, value in values.items()).encode()
 
 
-def trickle(listener):
+def trickle(listener, fields):
     """Answers one request with a byte every fifth of a second."""
     near, _ = listener.accept()
     with near, contextlib.suppress(OSError):
         near.recv(65536)
-        near.sendall(b"HTTP/1.1 200 OK\r\nContent-Length: 9999\r\n\r\n")
+        near.sendall(b"HTTP/1.1 200 OK\r\n" + fields + b"\r\n")
         for _ in range(50):
             time.sleep(0.2)
             near.sendall(b"a")
@@ -312,11 +312,12 @@ class Looking(Served):
 
     def test_slow_answer(self):
         """An origin that never ends its answer has no more than the time of a request."""
-        with socket.create_server(("127.0.0.1", 0)) as listener, unittest.mock.patch.object(health, "TIMEOUT", 0.5):
-            threading.Thread(target=trickle, args=(listener,), daemon=True).start()
-            begun = time.monotonic()
-            self.assertIsNone(health.ask_metrics(f"127.0.0.1:{listener.getsockname()[1]}"))
-            self.assertLess(time.monotonic() - begun, 2)
+        for fields in (b"Content-Length: 9999\r\n", b"Connection: close\r\n", b"Connection: close\r\nContent-Length: 9999\r\n"):
+            with self.subTest(fields), socket.create_server(("127.0.0.1", 0)) as listener, unittest.mock.patch.object(health, "TIMEOUT", 0.5):
+                threading.Thread(target=trickle, args=(listener, fields), daemon=True).start()
+                begun = time.monotonic()
+                self.assertIsNone(health.ask_metrics(f"127.0.0.1:{listener.getsockname()[1]}"))
+                self.assertLess(time.monotonic() - begun, 2)
 
     def test_table(self):
         well = self.look()

@@ -565,12 +565,14 @@ class Journals(unittest.TestCase):
         self.assertEqual((found.inits, self.pieces()), ({0: b"init"}, list(self.PIECES)))
 
     def test_media(self):
+        opened = len(os.listdir("/proc/self/fd"))
         for kind in self.kinds():
             self.put(self.media, kind)
             with self.subTest(kind), within_a_second():
                 self.assertEqual(self.pieces(), [None, None])
             self.put_back(self.media)
         self.assertEqual(self.pieces(), list(self.PIECES))
+        self.assertEqual(len(os.listdir("/proc/self/fd")), opened)
 
     def test_log(self):
         for kind in self.kinds():
@@ -701,6 +703,30 @@ class ClosedFolders(unittest.TestCase):
         self.assertEqual(sorted(os.listdir(self.state)), ["channel", "channel.aside", "channel.aside.1"])
         self.assertEqual([self.read(f"{name}/log") for name in ("channel", "channel.aside", "channel.aside.1")], ["channel", "channel", "channel.aside"])
         self.assertEqual((os.listdir(os.path.join(self.state, "channel", "media")), self.read("channel.aside/media/0/00000")), ([], "channel"))
+
+    def test_no_room(self):
+        """Where the disk has no room for another journal, the older one is removed, though folders of it are closed."""
+        path = os.path.join(self.tools, "stat")
+        with open(path, "w", encoding="ascii") as file:
+            file.write(f'#!/bin/sh\n[ "$1" != -f ] || exec echo 0\nexec {shutil.which("stat")} "$@"\n')
+        os.chmod(path, 0o755)
+        self.close("channel.aside/media/0", "channel.aside/media", "channel.aside")
+        status, text = self.call("prepare_journal", "news", ONCE="--anew")
+        self.assertEqual(status, 0, text)
+        self.assertIn(f"prepare_journal: {self.state}/channel.aside.1 is removed for room\n", text)
+        self.assertEqual(sorted(os.listdir(self.state)), ["channel", "channel.aside"])
+
+    def test_odd_log(self):
+        """A log that is no file isn't in the new folder, where it would end each start."""
+        path = os.path.join(self.state, "channel", "log")
+        for make in (os.mkfifo, os.mkdir, lambda path: os.symlink("/dev/zero", path), lambda path: None):
+            os.remove(path)
+            make(path)
+            self.close()
+            status, text = self.call("prepare_journal", "news", ONCE="--anew")
+            self.assertEqual((status, os.listdir(os.path.join(self.state, "channel"))), (0, ["media"]), text)
+            self.write("channel/media/0/00000", "channel")
+            self.write("channel/log", "channel")
 
     def test_own_journal(self):
         """The journal that a start reads is opened again, and a line says so."""
