@@ -24,7 +24,7 @@ from origins import Origin, init_section, unit
 sys.path.insert(0, os.path.join(ROOT, "deploy"))
 from hls_tools import caches
 
-SYSTEMS = {"": 320, "lists": 16, "recorded": 8}            # MB of each file system
+SYSTEMS = {"": 320, "lists": 16, "recorded": 16}           # MB of each file system; of what is past a quarter of what a machine with the others has
 LARGE, UNITS, RUN = 400_000, 120, 8                        # bytes of a large unit, how many there are, and in the longest segment
 LATE = 3                                                   # seconds until a late origin answers HEAD
 PREFIX = "2001:db8:77"                                     # the networks of IPv6 that strangers have
