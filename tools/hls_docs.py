@@ -521,8 +521,8 @@ ARCHITECTURE.md has an overview, REFERENCE.md each public call with its clauses.
 EXAMPLES_HEAD = """# Worked examples
 
 Each worked example and the tests that show it. Expected values are computed independently of the program.
-Files under `crates/` are proved and run by the gate; `tests/gate/programs`, `tests/gate/worked_examples` and `tests/gate/out_of_memory_serve` run the program
-that the gate built, and `tests/gate/calls` compiles a crate of tests without a proof.
+Files under `crates/` are proved and run by the gate; `tests/gate/programs`, `tests/gate/worked_examples`, `tests/gate/out_of_memory_serve` and
+`tests/gate/serve_options` run the program that the gate built, and `tests/gate/calls` compiles a crate of tests without a proof.
 
 An init section has 600 bytes and a unit 1000, with 90000 ticks a second; the target is 6 s, the preferred length 4 s. `[0,4)` is a
 unit from second 0 to second 4. Exhausted job ids aren't shown, since 2^53 jobs would have to be added; by its contract `add` then
