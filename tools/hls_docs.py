@@ -31,13 +31,25 @@ def crates_in_order():
     return found
 
 
-def crates_of(program):
-    """The crates that a program consists of."""
+def uses():
+    """The libraries that each crate uses, by its name."""
     used = {}
     for line in text_of(os.path.join(ROOT, "crates.txt")).splitlines():
         name, colon, libraries = line.partition("#")[0].partition(":")
         if colon:
             used[name.strip()] = libraries.split()
+    return used
+
+
+def uses_of(crate):
+    """The crates of this repository that a crate uses."""
+    used = uses()
+    return [it for it in used[crate] if it in used]
+
+
+def crates_of(program):
+    """The crates that a program consists of."""
+    used = uses()
     found, left = [], [program]
     while left:
         crate = left.pop()
@@ -443,8 +455,19 @@ def promises():
             found[-1][1][-1].through.append((through.group(1), through.group(2).split(", ")))
         elif line.startswith("  note "):
             found[-1][1][-1].notes.append(line[7:])
-        elif line and not line.startswith("#"):
+        elif line and not line.startswith(("#", "open: ")):
             raise ValueError("%s:%d: can't read %r" % (PROMISES, number, line))
+    return found
+
+
+def open_places():
+    """What isn't proved of promises, by their titles, as docs/promises.txt says."""
+    found, title = {}, ""
+    for line in text_of(os.path.join(ROOT, PROMISES)).splitlines():
+        if re.fullmatch(r"\[.+\]", line):
+            title = line[1:-1]
+        elif line.startswith("open: "):
+            found[title] = line[len("open: "):]
     return found
 
 
