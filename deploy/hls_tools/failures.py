@@ -34,6 +34,12 @@ def leave(number: int, _: FrameType | None) -> None:
     sys.exit(128 + number)
 
 
+def end_by_signals() -> None:
+    """Has signals end this process at once: one of several that work for a tool, which cleans up itself."""
+    for one in SIGNALS:
+        signal.signal(one, signal.SIG_DFL)
+
+
 def run_tool(name: str, work: Callable[[], None]) -> None:
     """Does a tool's work. After a failure, prints its line and exits with its status."""
     for one in SIGNALS:

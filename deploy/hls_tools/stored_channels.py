@@ -15,7 +15,7 @@ from typing import NamedTuple
 
 from .certificates import PROGRAM
 from .channels import RENDITION_NAME, read_regular
-from .failures import Failure
+from .failures import Failure, end_by_signals
 
 CHANNEL, BEGUN, ACCEPTED, TRIMMED = 0, 1, 2, 5          # kinds of records
 FILE = 1 << 26                                          # bytes of a media file
@@ -184,7 +184,8 @@ def served(folder: str) -> Iterator[str]:
         stored = read_log(os.path.join(folder, "log"))
     except (Failure, OSError) as fault:
         raise Failure(f"{folder}: {fault}") from None
-    with concurrent.futures.ProcessPoolExecutor() as pool:
+    # (a unit takes half a GiB meanwhile, if it is as long as one may be)
+    with concurrent.futures.ProcessPoolExecutor(min(4, os.cpu_count() or 1), initializer=end_by_signals) as pool:
         whole = list(pool.map(is_whole, [folder] * len(stored.units), stored.units, chunksize=16))
     if missing := whole.count(False):
         print(f"{folder}: {missing} of {len(whole)} units are damaged or missing, and are left out", file=sys.stderr)

@@ -476,22 +476,29 @@ def recorded(floods):
 
 
 def heads(floods):
-    """A HEAD stores nothing: a viewer that wants the same segment doesn't wait for it, and the channel may store as much as without."""
+    """A HEAD stores nothing: a viewer that wants the same segment doesn't wait for it, and the channel may store as much as without. An
+    address has few that are unanswered, so those of a silent origin take no connections from other channels."""
+    statuses = []
+
     def path_of(n):
         return f"/hls/0123456789abcdef/0/{n * 4}-{n * 4 + 3}.m4s"
 
     def head_of(n, here):
-        one = threading.Thread(target=floods.edge.raw, args=("/late" + path_of(n),), kwargs={"here": here, "method": "HEAD"})
+        one = threading.Thread(target=lambda: statuses.append(floods.edge.raw("/late" + path_of(n), here=here, method="HEAD")[0]))
         one.start()
         return one
 
+    several = [head_of(200 + n, "127.9.150.4") for n in range(12)]
+    for one in several:
+        one.join()
+    check("an address has eight HEADs that are unanswered", sorted(statuses) == [200] * 8 + [429] * 4, statuses)
     several, fetched = [], []
     for n in range(84):
         several.append(head_of(100 + n, f"127.9.151.{n % 7}"))
         time.sleep(0.03)
         if n >= 60 and n % 4 == 0:
-            statuses = [floods.edge.raw("/late" + path_of(n), here="127.9.150.3")[0] for _ in range(2)]
-            fetched.append((statuses, floods.late.asked.count("GET " + path_of(n))))
+            twice = [floods.edge.raw("/late" + path_of(n), here="127.9.150.3")[0] for _ in range(2)]
+            fetched.append((twice, floods.late.asked.count("GET " + path_of(n))))
     check("segments are stored beside many HEADs of others", fetched == [([200, 200], 1)] * 6, fetched)
     for one in several:
         one.join()

@@ -747,13 +747,18 @@ class ClosedFolders(unittest.TestCase):
         self.assertFalse(os.path.lexists(os.path.join(self.state, "served.new")))
 
 
-# A program that listens, accepts nothing, and takes the given milliseconds of a processor in each second.
+# A program that listens, accepts nothing, and takes the given milliseconds of a processor in each second. As many connections as given
+# are in its queue, which has room for one.
 SILENT = """
 import socket, sys, time
-listener, begun, taken = socket.create_server(("127.0.0.1", 0)), time.monotonic(), time.process_time()
+listener, held = socket.create_server(("127.0.0.1", 0), backlog=0), [socket.socket() for _ in range(int(sys.argv[2]))]
+for one in held:
+    one.setblocking(False)
+    one.connect_ex(listener.getsockname())
+begun, taken = time.monotonic(), time.process_time()
 print(listener.getsockname()[1], flush=True)
 while True:
-    time.sleep(0.5)
+    time.sleep(0.5 if float(sys.argv[1]) else 1000)
     while time.process_time() - taken < float(sys.argv[1]) / 1000 * (time.monotonic() - begun):
         pass
 """
@@ -762,9 +767,9 @@ while True:
 class Watched(unittest.TestCase):
     """deploy/watch_origin beside programs that accept no connection: it kills one that does nothing, and none that still works a little."""
 
-    def silent(self, milliseconds):
+    def silent(self, milliseconds, held=0):
         """Starts a program that is watched, with its watcher."""
-        process = subprocess.Popen([sys.executable, "-c", SILENT, str(milliseconds)], stdout=subprocess.PIPE, text=True)
+        process = subprocess.Popen([sys.executable, "-c", SILENT, str(milliseconds), str(held)], stdout=subprocess.PIPE, text=True)
         self.addCleanup(process.stdout.close)
         self.addCleanup(process.wait)
         self.addCleanup(process.kill)
@@ -776,10 +781,10 @@ class Watched(unittest.TestCase):
         return process, watcher
 
     def test_silent(self):
-        # a little less than an idle origin whose connections are all held takes: 50 ms in 20 s
-        working, idle, stopped = (self.silent(milliseconds) for milliseconds in (2.2, 0, 2.2))
+        # what an origin of one worker whose connections are all held takes: 25 ms in 20 s
+        working, idle, stopped, full = self.silent(1.2), self.silent(0), self.silent(2.2), self.silent(0, held=4)
         stopped[0].send_signal(signal.SIGSTOP)
-        for process, watcher in (idle, stopped):
+        for process, watcher in (idle, stopped, full):
             self.assertEqual(process.wait(40), -signal.SIGKILL)
             self.assertRegex(watcher.communicate(timeout=5)[1], "^watch_origin: the origin at [^ ]+ hasn't answered for 20 s, and does nothing: it is killed, and restarted\n$")
         # its watcher has looked as often by then
