@@ -355,7 +355,7 @@ def given(edge, *words):
 
 
 def known_name(site):
-    """Wrong passwords under the encoder's own name, from its own address: the encoder goes on."""
+    """Wrong passwords under the encoder's own name, from its own address: the encoder continues."""
     edge, here, name, over, tried = site.edge, "127.9.76.1", ENCODER[0], threading.Event(), []
     right, head = given(edge, "encoders", "news", name), "Content-Length: 0\r\n"
     mode = os.stat(os.path.join(edge.files, "encoders", "news.htpasswd")).st_mode & 0o777
